@@ -339,13 +339,10 @@ class Order(TestCase):
 
 @needs_command("rt")
 class Clauses(TestCase):
-    """The public clauses, each of which a page, a mutant, a proof of a caller or an example has."""
+    """What is said of public clauses that nothing has (dev/statements/clauses.py)."""
 
     def assert_missing(self, *names):
         self.assertEqual([line.partition(": no page")[0] for line in clauses.faults()], list(names))
-
-    def test_each_is_had(self):
-        self.assertEqual(clauses.faults(), [])
 
     # Catches a clause that only a mutant has, and that is lost with it.
     def test_mutant_that_is_dropped(self):
