@@ -49,8 +49,12 @@ def source_of(module):
 def about(module):
     """Returns what ./test has to know of a module, by the constants that dev/testing.py describes: what it needs, whether it
     needs the proved program, and whether it runs alone. The module isn't loaded, since that may need a library."""
-    constants = {line.targets[0].id: line.value for line in source_of(module).body
-                 if isinstance(line, ast.Assign) and isinstance(line.targets[0], ast.Name)}
+    constants = {}
+    for line in source_of(module).body:
+        if isinstance(line, ast.Assign):
+            [target] = line.targets
+            pairs = zip(target.elts, line.value.elts) if isinstance(target, ast.Tuple) else [(target, line.value)]
+            constants |= {name.id: value for name, value in pairs if isinstance(name, ast.Name)}
     needs, proved, alone = (ast.literal_eval(constants[name]) if name in constants else without
                             for name, without in (("NEEDS", set()), ("PROVED", False), ("ALONE", False)))
     return frozenset(needs), proved, alone

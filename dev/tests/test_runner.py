@@ -1,5 +1,6 @@
 """Tests the runner of tests and the list of expected tests: what fails is recorded, and what is dropped, emptied or new is
 noticed."""
+import ast
 import json
 import sys
 import textwrap
@@ -203,6 +204,10 @@ class Names(TestCase):
     def test_needs_are_read_from_the_source(self):
         self.assertEqual(runner.about("dev.tests.test_runner"), (frozenset(), False, False))
         self.assertTrue(all(needs <= {"program", "library"} for needs, _, _ in map(runner.about, runner.modules())))
+        forms = "NEEDS = {'program'}\nPROVED = True\n", "NEEDS, PROVED = {'program'}, True\n"
+        for form in forms:
+            with self.subTest(form.splitlines()[0]), mock.patch.object(runner, "source_of", return_value=ast.parse(form)):
+                self.assertEqual(runner.about("tests.test_a"), (frozenset({"program"}), True, False))
 
     def test_a_module_that_cannot_be_loaded_here(self):
         self.assertIn("dev.tests.test_runner.Names.test_help_and_list", runner.written("dev.tests.test_runner"))
