@@ -26,10 +26,6 @@ class Definition:
         self.context = context
         self.name = key.rpartition(".")[2]
 
-    def count(self):
-        """Returns the number of its lines that aren't comments."""
-        return sum(not line.strip().startswith(("--", "//")) for line in self.lines)
-
 
 def uncommented(text):
     return re.sub(r"(?m)(?:^|(?<=\s))--.*$", "", text)
