@@ -53,7 +53,7 @@ def about(module):
     for line in source_of(module).body:
         if isinstance(line, ast.Assign):
             [target] = line.targets
-            pairs = zip(target.elts, line.value.elts) if isinstance(target, ast.Tuple) else [(target, line.value)]
+            pairs = zip(target.elts, getattr(line.value, "elts", ())) if isinstance(target, ast.Tuple) else [(target, line.value)]
             constants |= {name.id: value for name, value in pairs if isinstance(name, ast.Name)}
     needs, proved, alone = (ast.literal_eval(constants[name]) if name in constants else without
                             for name, without in (("NEEDS", set()), ("PROVED", False), ("ALONE", False)))
