@@ -16,7 +16,7 @@ import unittest
 
 from dev.crates import TOP
 
-FOLDERS = ("tests", "dev/tests", "convert/tests", "map/tests", "bindings/tests")
+FOLDERS = ("tests", "dev/tests", "convert/tests", "map/tests", "bindings/tests", "bindings/python/tests")
 
 
 def modules():

@@ -2,8 +2,7 @@
 import gzip
 import random
 
-from dev.models.table_model import E1, E3, E8, HAS_CR, IPV6
-from dev.models.worked import report
+from dev.models.table_model import E1, E3, E8, HAS_CR, IPV6, report
 from tests.cases import ProgramCase
 from tests.line_reader import run_of
 

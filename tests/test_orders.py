@@ -6,8 +6,7 @@ import sys
 import time
 from typing import NamedTuple
 
-from dev.models.table_model import route_text, table_text
-from dev.models.worked import report
+from dev.models.table_model import report, route_text, table_text
 from dev.testing import is_unproved
 from tests import linearizability
 from tests.cases import ProgramCase

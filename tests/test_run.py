@@ -4,8 +4,7 @@ import math
 import random
 
 from dev.models import calls
-from dev.models.table_model import MAX_FEEDS, dotted, route_text, run_text, table_text
-from dev.models.worked import SIX, WORKED, report
+from dev.models.table_model import MAX_FEEDS, dotted, report, route_text, run_text, table_text
 from dev.testing import is_unproved
 from tests.cases import TOO_MANY, ProgramCase, prefix_of, route, table
 from tests.schedules import in_turns
@@ -74,14 +73,14 @@ class Runs(ProgramCase):
     # Catches F3 for one of the texts.
     # Catches `write_report` or `write_table` failing at once.
     def test_worked_runs(self):
-        for worked in WORKED:
-            self.assert_run(worked.name, [worked.text], worked.output, worked.status, ["--limit", str(worked.limit)])
+        self.assert_calls(calls.WORKED_FILES, calls.WORKED)
 
     # Catches F3 for batches of 700.
     def test_every_batch_size(self):
-        self.write({"six.feed": SIX.text})
+        (_, name), (_, output, _) = calls.WORKED[0]
+        self.write({name: calls.WORKED_FILES[name]})
         for batch in range(1, 1025):
-            self.assert_ended(self.yarib("run", "--batch", str(batch), "six.feed"), SIX.output, message=f"--batch {batch}")
+            self.assert_ended(self.yarib("run", "--batch", str(batch), name), output, message=f"--batch {batch}")
 
     # Catches `write_report` or `write_table` failing beyond some number of lines.
     def test_200_000_routes(self):

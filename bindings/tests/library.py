@@ -14,6 +14,7 @@ import tempfile
 import unittest
 
 from dev.crates import CRATES, TOP
+from dev.models import table_vectors
 from dev.testing import TestCase, call, environment
 
 BINDINGS = TOP / "bindings"
@@ -100,6 +101,14 @@ class LibraryCase(TestCase):
         """Skips the test if gcc hasn't what these options need."""
         if not has_options(*options):
             self.skipTest(f"gcc has no {' '.join(options)} here")
+
+    @staticmethod
+    def vectors():
+        """Returns the path of the test vectors, which are written once in a process."""
+        path = scratch() / "vectors"
+        if not path.exists():
+            table_vectors.write(path)
+        return path
 
     def build(self, name, *options, words=(), libraries=None):
         """Builds test_NAME.c as the Makefile says, with these options of gcc and words of make, and returns its path."""

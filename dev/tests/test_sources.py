@@ -6,7 +6,9 @@ from dev import runner
 from dev.crates import CRATES, TOP, all_crates
 from dev.mutants import mutant_lists
 from dev.mutants.definition_copies import changes_of, listing_crates
+from dev.mutants.mutant_lists import mutants_of
 from dev.rust_sources import source
+from dev.statements import clauses
 from dev.testing import call
 from dev.tests.pages import Rules, files_of_repository, name_of
 
@@ -14,10 +16,6 @@ from dev.tests.pages import Rules, files_of_repository, name_of
 MARK = "Catches "
 # A line of Python below such a comment: a test, or a row of a table of cases.
 AT_TEST = re.compile(r"\s*(?:def test_|class \w+\(|with self\.subTest\(|for name|[(\"\w]+.*,$)")
-
-
-def mutants_of(crate):
-    return mutant_lists.mutants_of(crate) + mutant_lists.controls_of(crate)
 
 
 def names_in_lists(crate):
@@ -66,7 +64,7 @@ class Lists(Rules):
 
     def test_mutants_can_be_made(self):
         """Each can be made from the function that it names, and names the goal that it leaves open."""
-        faults = [(f"crates/{crate}/must-fail: {one.name}", one.fault(CRATES / crate), one.goal or getattr(one, "is_control", False))
+        faults = [(f"crates/{crate}/must-fail: {one.name}", one.fault(CRATES / crate), one.goal)
                   for crate in mutant_lists.listing_crates() for one in mutants_of(crate)]
         self.assertGreater(len(faults), 100)
         self.assert_none(f"{name}: {fault}" for name, fault, _ in faults if fault)
@@ -98,6 +96,12 @@ class Lists(Rules):
         self.assert_none(f"{name_of(file)}: a comment describes a mutant at no function" for file, comments in found.items()
                          if sum(comment.count(MARK) for comment, _ in comments)
                          != len(re.findall(rf"^ *(?:///?|#) {MARK}", file.read_text(), re.M)))
+
+
+class Clauses(Rules):
+    def test_public_clauses(self):
+        """A page, a mutant, the proof of a caller or an example has each, and no export for C has a `requires`."""
+        self.assert_none(clauses.faults())
 
 
 class Sources(Rules):

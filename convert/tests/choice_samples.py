@@ -1,100 +1,27 @@
-"""Cases for the choice of routes: each step of the standard, both ways, and handmade samples that one of the steps
-decides. Each has the standard's rule next to it. `test` runs them."""
+"""Handmade samples that one step of BGP's choice decides, each with the standard's rule next to it."""
 import itertools
 import json
+from typing import NamedTuple
 
-import choice
-from choice import ORIGINS
+# the worst preference of a feed's route
+GREATEST = (1 << 32) - 1
 
-# Each step in the order of the standard, with the winner's and the loser's attributes; everything compared before is
-# equal.
-STEPS = (
-    ("the daemon's own", {"ahead": 0}, {"ahead": 1}),
-    ("local preference", {"local_pref": 200}, {"local_pref": 100}),
-    ("AIGP", {"aigp": 10}, {"aigp": 20}),
-    ("AIGP that the other hasn't", {"aigp": choice.NO_AIGP - 1}, {}),
-    ("length of the path", {"path": "65001 65008"}, {"path": "65001 65009 65010"}),
-    ("origin IGP", {"origin": ORIGINS["IGP"]}, {"origin": ORIGINS["EGP"]}),
-    ("origin EGP", {"origin": ORIGINS["EGP"]}, {"origin": ORIGINS["INCOMPLETE"]}),
-    ("MED", {"med": 10}, {"med": 20}),
-    ("EBGP", {"internal": False}, {"internal": True}),
-    ("cost of the next hop", {"cost": 10}, {"cost": 20}),
-    ("BGP identifier", {"identifier": choice.address_order("9.0.2.1")}, {"identifier": choice.address_order("10.0.2.1")}),
-    ("CLUSTER_LIST", {"clusters": 1}, {"clusters": 2}),
-    ("address of the peer", {"peer": choice.address_order("9.0.2.1")}, {"peer": choice.address_order("10.0.2.1")}),
-    ("number of the path", {"number": 9}, {"number": 10}),
-)
-# A path, its length, and its neighbouring AS. A set has commas or, of BIRD, blanks.
-PATHS = (
-    ("", 0, ""),
-    ("65001", 1, "65001"),
-    ("65001 65002 65001", 3, "65001"),
-    ("65001 {65002,65003,65004}", 2, "65001"),
-    ("65001 {65002 65003} 65004", 3, "65001"),
-    ("{65002,65003} 65001", 2, ""),
-    ("(65101 65102) 65001 65002", 2, "65001"),
-    ("[65101,65102] 65001", 1, "65001"),
-    ("(65101) [65102,65103] 65001", 1, "65001"),
-    ("({65101 65102}) 65001", 1, "65001"),
-    ("(65101 65102)", 0, ""),
-    ("(65101) {65002,65003}", 1, ""),
-)
-THREE = (("a", "1", 20), ("b", "2", 0), ("c", "1", 10))
-# Routes decided by MED: the order, and the source, path and MED of each. The sources are named in the order of their
-# peers.
-OF_MED = (
-    ("a lower MED of another neighbouring AS decides nothing", "ab", (("a", "1", 20), ("b", "2", 10))),
-    ("a lower MED of the same neighbouring AS decides", "ba", (("a", "1 5", 20), ("b", "1 6", 10))),
-    ("none is 0", "ba", (("a", "1 5", 1), ("b", "1 6", 0))),
-    ("a route that loses by MED doesn't beat others", "bca", THREE),
-    ("what is left when the best is gone", "bcad", (("a", "2", 10), ("b", "1", 10), ("c", "2", 0), ("d", "1", 20))),
-    ("of a confederation's own routes", "ba", (("a", "(65101)", 20), ("b", "(65102)", 10))),
-    ("a path longer than the best one's loses to none by MED", "abc", (("a", "1", 20), ("b", "2", 0), ("c", "1 5", 10))),
-    ("no shorter path loses by MED", "bcad", (*THREE, ("d", "1 5", 0))),
-    ("all routes of a source are gone with its best", "bca", (*THREE, ("b", "1", 0))),
-)
-# The listed order of those three, and their order if a daemon goes through them in turn.
-IN_TURN = (("abc", "cab"), ("acb", "bca"), ("bac", "cab"), ("bca", "abc"), ("cab", "bca"), ("cba", "abc"))
 
-# Routes of a single neighbouring AS that are compared in turn; the first wins. What is compared before MED decides
-# first.
-BEFORE_MED_IN_TURN = (
-    ("local preference", {"local_pref": 200, "path": "1 5", "med": 20}, {"local_pref": 100, "path": "1 5", "med": 10}),
-    ("length of the path", {"path": "1", "med": 20}, {"path": "1 5", "med": 10}),
-    ("origin", {"path": "1", "origin": ORIGINS["IGP"], "med": 20}, {"path": "1", "origin": ORIGINS["EGP"], "med": 10}),
-)
+class Sample(NamedTuple):
+    """An input of a converter, and the table that it has to give: the next hops of each prefix, best first, or with
+    `numbers` their preferences; and a part of the notes."""
+    name: str
+    standard: str
+    command: str
+    text: str
+    table: dict
+    note: str = ""
+    numbers: bool = False
 
 
 def systems(number):
-    """A path with this number of AS."""
+    """Returns a path with this number of AS."""
     return " ".join(str(65000 + place % 500) for place in range(number))
-
-
-# Pairs whose first member wins, with numbers at the limits of the bits that store them.
-BORDERS = (
-    *((f"local preference {greater}", {"local_pref": greater}, {"local_pref": less})
-      for greater, less in ((128, 127), (32768, 32767), (65536, 65535), (1 << 31, (1 << 31) - 1), (1 << 31, 0),
-                            ((1 << 32) - 1, 1 << 31), ((1 << 32) - 1, 0))),
-    *((f"a path of {longer} AS", {"path": systems(shorter), "origin": ORIGINS["INCOMPLETE"]}, {"path": systems(longer)})
-      for shorter, longer in ((1, 127), (1, 128), (127, 128), (128, 129), (255, 256), (1, 256), (256, 300), (300, 1000))),
-    *((f"local preference before a path of {longer} AS", {"local_pref": 101, "path": systems(longer)}, {"path": "1"})
-      for longer in (127, 128, 256, 1000)),
-    *((f"{ahead} of the daemon's own", {"ahead": ahead - 1, "local_pref": 0}, {"ahead": ahead, "local_pref": (1 << 32) - 1})
-      for ahead in (1, 2, 8, 15, 16, 17, 32, 256, 1 << 31, (1 << 32) - 1)),
-    *((f"the session {greater}", {name: choice.address_order(less)}, {name: choice.address_order(greater)})
-      for name in ("peer", "identifier")
-      for less, greater in (("127.0.0.1", "::1"), ("255.255.255.255", "::"), ("192.0.2.1", "2001:db8::1"),
-                            ("9.0.0.1", "10.0.0.1"), ("2001:db8::9", "2001:db8::10"))),
-)
-
-
-class Sample:
-    """A handmade input of a converter, and the table that it has to give: the next hops of each prefix, best first, or
-    with `numbers` their preferences."""
-
-    def __init__(self, name, standard, command, text, table, said="", numbers=False):
-        self.name, self.standard, self.command, self.text = name, standard, command, text
-        self.table, self.said, self.numbers = table, said, numbers
 
 
 def dumped(*lines):
@@ -251,7 +178,7 @@ FRR = (
     Sample("FRR's default local preference decides", ABSENT, "frr-to-feeds",
            frr((2, {**CHOSEN, "locPrf": 300}), (3, {"locPrf": 150}), (4, {}), default=200), {"10.0.0.0/8": "2 4 3"}),
     Sample("FRR's default local preference is the number", ABSENT, "frr-to-feeds --by local-pref",
-           frr((2, CHOSEN), default=200), {"10.0.0.0/8": f"{choice.GREATEST - 200}"}, numbers=True),
+           frr((2, CHOSEN), default=200), {"10.0.0.0/8": f"{GREATEST - 200}"}, numbers=True),
     Sample("what FRR holds invalid isn't taken", FEASIBLE, "frr-to-feeds", frr((2, CHOSEN), (3, {"valid": False})),
            {"10.0.0.0/8": "2"}, "omitted 1 that are not valid"),
     Sample("a prefix without FRR's choice isn't taken", "RFC 4271, 9.1.2: only a route that is chosen is in the Loc-RIB",
@@ -296,7 +223,7 @@ REACHED = {"type": 14, "nexthop": "2001:db8::2", "afi": 1, "safi": 1, "value": [
 GOBGP = (
     Sample("GoBGP's route without a local preference has 100", "RFC 4271, 5.1.5: EBGP routes have no LOCAL_PREF; GoBGP takes 100",
            "gobgp-to-feeds --by local-pref", gobgp({"type": 3, "nexthop": "192.0.2.2"}),
-           {"10.0.0.0/8": f"{choice.GREATEST - 100}"}, numbers=True),
+           {"10.0.0.0/8": f"{GREATEST - 100}"}, numbers=True),
     Sample("GoBGP's next hop may be in MP_REACH_NLRI", OTHER_FAMILY, "gobgp-to-feeds --ipv6-hop 192.0.2.6", gobgp(REACHED),
            {"10.0.0.0/8": "6"}),
 )
