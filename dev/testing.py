@@ -10,6 +10,7 @@ Tests are `unittest` test cases in files `test_*.py`. `./test --only PATTERN` ru
 import functools
 import os
 import pathlib
+import re
 import shutil
 import subprocess
 import tempfile
@@ -62,6 +63,33 @@ def program():
     if built.returncode or not built.stdout.strip():
         raise unittest.SkipTest("the unproved program can't be built here; ./try says why")
     return pathlib.Path(built.stdout.strip())
+
+
+def compiled(folder, source, *options):
+    """Compiles a source in C of this repository with gcc into the directory, and returns the path of the program, or with
+    -shared of a library that is loaded before one."""
+    target = folder / pathlib.Path(source).stem
+    subprocess.run(["gcc", "-O2", *options, "-o", target, TOP / source], check=True)
+    return target
+
+
+@functools.cache
+def library(source):
+    """Returns the path of a library of this source in C, which exists until the process ends, and its directory."""
+    folder = tempfile.TemporaryDirectory(prefix="yarib-test-")
+    return compiled(pathlib.Path(folder.name), source, "-shared", "-fPIC"), folder
+
+
+def launched(subcommand="run", limited=False):
+    """Returns the setting that the launchers make before they start the program with this subcommand, as in ./yarib's own
+    lines: arenas of large pages, which request address space in large pieces if several are filled and it isn't limited."""
+    launcher = (TOP / "yarib").read_text()
+    arenas = {word: (number, asks) for words, number, asks in re.findall(r"([\w*| ]+)\) arenas=(\d+) limits=(.*?) ;;", launcher)
+              for word in words.split(" in ")[-1].replace(" ", "").split("|")}
+    number, asks = arenas.get(subcommand, arenas["*"])
+    pieces = "" if limited or "ulimit" not in asks else re.search(r"^case \$limits in .*?\) pieces=(\S+) ;;", launcher, re.M)[1]
+    setting = re.search(r'^export GLIBC_TUNABLES="(.*?)\$\{', launcher, re.M)[1]
+    return {"GLIBC_TUNABLES": setting.replace("$arenas", number).replace("$pieces", pieces)}
 
 
 def is_unproved():
@@ -131,6 +159,13 @@ class TestCase(unittest.TestCase):
     def yarib(self, *words, **settings):
         """Calls the program in the test's directory, and returns how it ended."""
         return self.call(program(), *words, **settings)
+
+    def preloaded(self, source):
+        """Returns the variable that loads a library of this source in C before a program, which has to be called in the
+        test's directory: no path with a space can be loaded, so the library is put there."""
+        path = library(source)[0]
+        shutil.copy(path, self.folder)
+        return {"LD_PRELOAD": f"./{path.name}"}
 
     def assert_ended(self, ended, stdout="", stderr="", returncode=0, message=None):
         """Fails unless the call ended with this status and these outputs; None takes any output. Of long outputs the

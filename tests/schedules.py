@@ -2,9 +2,10 @@
 import functools
 import pathlib
 import struct
+import subprocess
 import tempfile
 
-from dev.checks import compiled
+from dev.crates import TOP
 
 SIZES = 4096
 ROUTES = 1_000
@@ -12,9 +13,11 @@ ROUTES = 1_000
 
 @functools.cache
 def library():
-    """Returns the shared library, and its directory, which exists until the script ends."""
-    folder = tempfile.TemporaryDirectory()
-    return compiled(pathlib.Path(folder.name), "tests/schedule.c", "-shared", "-fPIC"), folder
+    """Returns the shared library, and its directory, which exists until the process ends."""
+    folder = tempfile.TemporaryDirectory(prefix="yarib-test-")
+    made = pathlib.Path(folder.name) / "schedule"
+    subprocess.run(["gcc", "-O2", "-shared", "-fPIC", "-o", made, TOP / "tests/schedule.c"], check=True)
+    return made, folder
 
 
 def loaded(**settings):
@@ -22,19 +25,18 @@ def loaded(**settings):
     return {"LD_PRELOAD": str(library()[0])} | {name: str(value) for name, value in settings.items()}
 
 
-@functools.cache
-def size_of_route(yarib):
+def size_of_route(case):
     """Returns the size that each `add` allocates once while it holds the lock, and that is rarely allocated elsewhere."""
-    pathlib.Path("routes.feed").write_text("".join(f"add 10.{k >> 8}.{k & 255}.0/24 1 192.0.2.1\n" for k in range(ROUTES)))
+    case.write({"routes.feed": "".join(f"add 10.{k >> 8}.{k & 255}.0/24 1 192.0.2.1\n" for k in range(ROUTES))})
     with tempfile.TemporaryFile() as kept:
         kept.truncate(4 * SIZES)
-        yarib("run", "routes.feed", env=loaded(SIZES_IN=kept.fileno()), pass_fds=[kept.fileno()])
+        case.yarib("run", "routes.feed", env=loaded(SIZES_IN=kept.fileno()), pass_fds=[kept.fileno()])
         kept.seek(0)
         counts = struct.unpack(f"{SIZES}I", kept.read())
     often = [(count, size) for size, count in enumerate(counts) if count >= ROUTES // 2]
     return min(often)[1]
 
 
-def in_turns(yarib, *words):
-    """Runs two files: each `add` of the second file holds the lock until the first file waits for the lock."""
-    return yarib("run", *words, env=loaded(HOLD_SIZE=size_of_route(yarib)))
+def in_turns(case, *words):
+    """Runs two files of a test: each `add` of the second file holds the lock until the first file waits for the lock."""
+    return case.yarib("run", *words, env=loaded(HOLD_SIZE=size_of_route(case)))
