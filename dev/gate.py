@@ -44,13 +44,13 @@ class Gate:
         self.least = self.free
         self.passed = self.failed = 0
         self.failing, self.records, self.others, self.whole = [], [], set(), []
-        self.built, self.proved, self.has_proved = {"pages"}, set(), False
+        self.built, self.not_built, self.proved, self.has_proved = set(), set(), set(), False
         self.at_once = max(1, processors() - 2)
         self.left, self.running = [], {}
         self.changed = threading.Condition()
         self.environment = {name: value for name, value in os.environ.items()
                             if not name.startswith("YARIB_") and name not in ("CFLAGS", "PYTHONPATH", "LANGUAGE")}
-        self.environment |= {"LC_ALL": "C", "RT_JOBS": os.environ.get("RT_JOBS", str(provers()))}
+        self.environment = self.environment | {"LC_ALL": "C", "RT_JOBS": os.environ.get("RT_JOBS", str(provers()))}
 
     def say(self, text):
         print(text, flush=True)
@@ -67,6 +67,7 @@ class Gate:
     def start(self, command, output, nice=0, **settings):
         """Starts a command in a process group of its own, with its output in a file of the notes."""
         command = [*(["nice", "-n", str(nice)] if nice else []), *map(str, command)]
+        # The environment is replaced, and never changed, since other threads read it.
         with open(self.notes / output, "wb") as file:
             process = subprocess.Popen(command, cwd=TOP, env=self.environment, stdin=subprocess.DEVNULL, stdout=file,
                                        stderr=subprocess.STDOUT, start_new_session=True, **settings)
@@ -134,13 +135,11 @@ class Gate:
     def next_module(self):
         """Returns a module whose needs are met, once there is one, or None if none is left."""
         with self.changed:
-            while self.left:
+            while any(not runner.about(module)[0] & self.not_built for module in self.left):
                 for module in self.left:
                     if runner.about(module)[0] <= self.built:
                         self.left.remove(module)
                         return module
-                if self.failing and self.has_proved and not self.built >= {"program", "library"}:
-                    return None
                 self.changed.wait(1)
         return None
 
@@ -198,21 +197,34 @@ class Gate:
 
     def build_library(self, sources):
         """Builds the library for C once the crates below it are proved, for the tests that need it."""
+        try:
+            built = self.library_is_built(sources)
+        except OSError as error:
+            self.count(0, 1, "the library for C", str(error))
+            built = False
+        with self.changed:
+            (self.built if built else self.not_built).add("library")
+            self.changed.notify_all()
+
+    def library_is_built(self, sources):
+        """Returns true once the library for C is built; a failure is counted."""
         with self.changed:
             while not LIBRARY <= self.proved and not self.has_proved:
                 self.changed.wait(1)
         words = [TOP / "dev/build/archive", "yarib_c", "--sources", sources, *(["--anew"] if self.mode == "anew" else [])]
         status, _ = self.end(self.start(words, "changes", 5))
         if status:
-            return self.count(0, 1, "dev/build/archive", (self.notes / "changes").read_text(errors="replace"))
+            self.count(0, 1, "dev/build/archive", (self.notes / "changes").read_text(errors="replace"))
+            return False
         archive = self.notes / "libyarib_c.a"
         shutil.copyfile(CRATES / "yarib_c/out/libyarib_c.a", archive)
-        self.environment["YARIB_ARCHIVE"] = str(archive)
+        self.environment = self.environment | {"YARIB_ARCHIVE": str(archive)}
         status, _ = self.end(self.start([TOP / "bindings/build", self.notes / "library"], "output.library"))
         if status:
-            return self.count(0, 1, "bindings/build", (self.notes / "output.library").read_text(errors="replace"))
-        self.environment["YARIB_LIBRARY"] = str(self.notes / "library")
-        self.has("library")
+            self.count(0, 1, "bindings/build", (self.notes / "output.library").read_text(errors="replace"))
+            return False
+        self.environment = self.environment | {"YARIB_LIBRARY": str(self.notes / "library")}
+        return True
 
     def has(self, built):
         with self.changed:
@@ -264,7 +276,7 @@ class Gate:
         library.start()
         self.prove()
         shutil.copy(CRATES / "rt_app/out/rt_app", self.notes / "rt_app")
-        self.environment["YARIB_PROGRAM"] = str(self.notes / "rt_app")
+        self.environment = self.environment | {"YARIB_PROGRAM": str(self.notes / "rt_app")}
         self.has_proved = True
         self.has("program")
         definitions = self.start([TOP / "dev/mutants/definitions", "--gate", *anew], "definitions", 10)
@@ -285,7 +297,7 @@ class Gate:
             self.say("test: the unproved program was not built; ./try says why")
             raise Stopped(1)
         shutil.copy(program, self.notes / "yarib")
-        self.environment |= {"YARIB_PROGRAM": str(self.notes / "yarib"), "YARIB_UNPROVED": "1"}
+        self.environment = self.environment | {"YARIB_PROGRAM": str(self.notes / "yarib"), "YARIB_UNPROVED": "1"}
         self.has_proved = True
         self.has("program")
         left_out = [module for module in runner.modules() if runner.about(module)[1] or "library" in runner.about(module)[0]]
@@ -325,6 +337,9 @@ class Gate:
             if self.failing:
                 self.say("test: these FAILED:\n" + "".join(self.failing))
             status = stopped.args[0]
+        except SystemExit as ended:  # by a signal
+            status = ended.code
+            raise
         finally:
             self.stop_all()
             if (self.notes / "begun").exists():
@@ -350,11 +365,6 @@ def clean():
         shutil.rmtree(folder) if folder.is_dir() else folder.unlink()
 
 
-def names():
-    """Returns the names of all tests, by module."""
-    return {module: list(runner.methods(module)) for module in runner.modules()}
-
-
 def run_only(patterns):
     """Runs the tests whose names, or whose subTests' names, match one of these patterns. It judges the proved program if it is
     built, and else the unproved one."""
@@ -365,7 +375,7 @@ def run_only(patterns):
         parts = known.get(test, (None, ()))[1]
         return any(fnmatch.fnmatchcase(name, form) for name in (test, *(f"{test} {part}" for part in parts)) for form in forms)
 
-    chosen = {module: list(filter(matches, tests)) for module, tests in names().items()}
+    chosen = {module: list(filter(matches, tests)) for module, tests in runner.names().items()}
     if not any(chosen.values()):
         sys.exit(f"test: no test matches {' or '.join(patterns)}; ./test --list prints their names")
     ready = subprocess.run([TOP / "dev/build/build", "--ready", "rt_app"], stdout=subprocess.PIPE, stderr=subprocess.DEVNULL, text=True)
@@ -411,7 +421,7 @@ def main():
     what.add_argument("--expected", action="store_true", help="writes tests/expected.txt by what the last runs recorded")
     args = parser.parse_args()
     if args.list:
-        return print("\n".join(name for tests in names().values() for name in tests))
+        return print("\n".join(name for tests in runner.names().values() for name in tests))
     if args.expected:
         return update_expected()
     if args.only:

@@ -8,13 +8,13 @@ import datetime
 import hashlib
 import os
 import pathlib
-import re
 import subprocess
 import tempfile
 
 from dev.crates import TOP
-from packaging.file_trees import Tree, deb, zipped
 from dev.versions import VERSION
+from packaging.file_trees import Tree, deb, zipped
+from packaging.manuals import manual
 
 LIBRARIES = "usr/lib/x86_64-linux-gnu"
 NOBODY = "nobody <nobody@invalid.invalid>"
@@ -84,14 +84,22 @@ class Release:
     def document(self, tree, name):
         """Adds what each package has below share/doc."""
         folder = f"usr/share/doc/{name}"
-        licences = "".join(f"\n== {path.name}\n\n{path.read_text()}" for path in sorted((TOP / "packaging/licences").iterdir()))
+        texts = self.notices()
+        licences = "".join(f"\n== {path.removeprefix('licences/')}\n\n{texts.files[path][0].decode()}"
+                           for path in sorted(texts.files) if path.startswith("licences/"))
         tree.add(f"{folder}/copyright", (
             "yarib has no licence yet: don't pass this package on without the owner's leave.\n\n"
-            f"{(TOP / 'NOTICES.md').read_text()}\n{licences}"))
+            f"{texts.files['NOTICES.md'][0].decode()}\n{licences}"))
         day = datetime.datetime.fromtimestamp(self.time, datetime.timezone.utc).strftime("%a, %d %b %Y %H:%M:%S +0000")
         tree.add(f"{folder}/changelog", f"yarib ({VERSION}) unstable; urgency=medium\n\n  * Built of commit\n"
                                         f"    {self.commit}.\n\n -- {NOBODY}  {day}\n")
         tree.compress(f"{folder}/changelog")
+
+    def notices(self):
+        """Returns the notices, and the texts of the licences that they name, as ./install puts them next to each other."""
+        tree, folder = Tree(), "share/doc/yarib/"
+        tree.files = {path.removeprefix(folder): file for path, file in self.staged.files.items() if path.startswith(folder)}
+        return tree
 
     def take(self, tree, *names, at="", to="usr/"):
         for name in names:
@@ -170,14 +178,13 @@ class Release:
     def add_sources(self):
         """Adds the bindings for Go and Rust, each with the library and the test vectors, where it and its tests look for them."""
         # It needs the sources of the crates, and ./release --verify has none.
-        from . import table_vectors
+        from dev.models import table_vectors
         vectors = table_vectors.text()
         for language, name in (("go", "go"), ("rust", "cargo")):
             tree = Tree()
             for path in tracked(f"bindings/{language}"):
                 tree.copy(TOP / path, path.removeprefix("bindings/"))
-            tree.copy(TOP / "NOTICES.md", "NOTICES.md")
-            tree.copy_all(TOP / "packaging/licences", "licences/")
+            tree.include(self.notices())
             for header in ("yarib.h", "yarib_check.h"):
                 tree.files[f"c/{header}"] = self.staged.files[f"include/{header}"]
             tree.files["out/libyarib.a"] = self.staged.files["lib/libyarib.a"]
@@ -233,26 +240,12 @@ def tools():
     tree = Tree()
     for folder in ("convert", "map"):
         scripts = sorted((TOP / folder).glob("*-to-*"))
-        for path in {*scripts, *(module for script in scripts for module in imported(script)), *(TOP / folder).glob("*.html")}:
-            tree.copy(path, f"share/yarib/{folder}/{path.name}")
+        for path in {*scripts, *(module for script in scripts for module in imported(script)), *(TOP / folder).glob("yarib_map/*.*")}:
+            tree.copy(path, f"share/yarib/{path.relative_to(TOP)}")
         for script in scripts:
             tree.link(f"bin/yarib-{script.name}", f"../share/yarib/{folder}/{script.name}")
             tree.add(f"share/man/man1/yarib-{script.name}.1", manual(script))
     return tree
-
-
-def manual(script):
-    """Returns the manual page of a converter or a map: its help text."""
-    name = f"yarib-{script.name}"
-    with tempfile.TemporaryDirectory() as folder:
-        called = pathlib.Path(folder) / name
-        called.symlink_to(script)
-        said = subprocess.run([called, "--help"], stdout=subprocess.PIPE, text=True, check=True,
-                              env=os.environ | {"COLUMNS": "79", "PYTHONDONTWRITEBYTECODE": "1"}).stdout
-    quoted = lambda text: re.sub(r"^([.'])", r"\\&\1", text.replace("\\", "\\e").replace("-", "\\-"), flags=re.M)
-    about = ast.get_docstring(ast.parse(script.read_text())).split("\n")[0].rstrip(":. ").removesuffix(" Usage").rstrip(".")
-    return (f'.TH {name.upper()} 1 "" "yarib {VERSION}" "User commands"\n.SH NAME\n{quoted(name)} \\- {quoted(about)}\n'
-            f".SH DESCRIPTION\n.nf\n{quoted(said)}.fi\n.SH SEE ALSO\n.BR yarib (1),\n/usr/share/doc/yarib\n")
 
 
 def documents(evidence, is_zipped=False):

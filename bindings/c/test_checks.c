@@ -1,15 +1,14 @@
 /* With YARIB_CHECK each call tests what its caller owes: a null pointer in the place of each argument, memory that is read and written
  * at once, and one handle in the place of two end the program by an assert. The rest of the arguments is as it should be. */
 #define YARIB_CHECK
-#include <yarib.h>
+#include "check.h"
 
 #include <signal.h>
-#include <stdio.h>
-#include <stdlib.h>
+#include <stdbool.h>
 #include <string.h>
 #include <sys/resource.h>
 #include <sys/wait.h>
-#include <unistd.h>
+#include <yarib.h>
 
 static yarib t, u;
 static yarib_concurrent k, l;
@@ -266,10 +265,10 @@ int main(void)
             fault(number);
             _exit(0);
         }
-        if (child < 0 || waitpid(child, &status, 0) != child || !WIFSIGNALED(status) || WTERMSIG(status) != SIGABRT) {
-            fprintf(stderr, "fault %d of %d isn't noticed\n", number, FAULTS);
-            return 1;
-        }
+        CHECK(child > 0 && waitpid(child, &status, 0) == child);
+        bool is_noticed = WIFSIGNALED(status) && WTERMSIG(status) == SIGABRT;
+        if (!is_noticed) fprintf(stderr, "fault %d of %d isn't noticed\n", number, FAULTS);
+        CHECK(is_noticed);
     }
     return 0;
 }

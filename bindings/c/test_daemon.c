@@ -444,6 +444,14 @@ static void sandbox(void)
     in_child(be_in_sandbox);
 }
 
+/* A thread that is to be cancelled still may be: what it called left that as it was. */
+static void check_cancellable(void)
+{
+    int state;
+    CHECK(pthread_setcancelstate(PTHREAD_CANCEL_DISABLE, &state) == 0 && state == PTHREAD_CANCEL_ENABLE);
+    CHECK(pthread_setcancelstate(PTHREAD_CANCEL_ENABLE, &state) == 0);
+}
+
 /* A thread that is to be cancelled makes a change that waits for a reader. */
 static atomic_int may_change, is_waiting, is_over;
 
@@ -452,6 +460,7 @@ static void *change_while_cancelled(void *unused)
     while (!atomic_load(&may_change)) continue;
     atomic_store(&is_waiting, 1);
     CHECK(change_concurrent(YARIB_ADD, 100) == YARIB_DONE);
+    check_cancellable();
     atomic_store(&is_over, 1);
     CHECK(pthread_setcancelstate(PTHREAD_CANCEL_DISABLE, NULL) == 0);
     return unused;
@@ -484,7 +493,9 @@ static void *load_while_cancelled(void *file)
     yarib_loaded loaded;
     while (!atomic_load(&may_change)) continue;
     CHECK(yarib_load(&table, 2, file, &loaded) == YARIB_DONE && loaded.routes == 1);
+    check_cancellable();
     CHECK(yarib_save(&table, 2, saved) == YARIB_DONE);
+    check_cancellable();
     atomic_store(&is_over, 1);
     CHECK(pthread_setcancelstate(PTHREAD_CANCEL_DISABLE, NULL) == 0);
     return NULL;
@@ -506,6 +517,35 @@ static void cancel_load(void)
     atomic_store(&may_change, 1);
     CHECK(pthread_join(thread, &result) == 0 && result == NULL && atomic_load(&is_over));
     CHECK(fclose(file) == 0 && fclose(saved) == 0 && change(YARIB_ADD, 101) == YARIB_DONE);
+    end();
+}
+
+/* A load waits for the lock of its file. */
+static void *load_locked(void *file)
+{
+    yarib_loaded loaded;
+    atomic_store(&is_waiting, 1);
+    CHECK(yarib_load(&table, 2, file, &loaded) == YARIB_DONE && loaded.routes == 1);
+    atomic_store(&is_over, 1);
+    return NULL;
+}
+
+static void lock_file(void)
+{
+    const struct timespec moment = {.tv_nsec = 50000000};
+    FILE *file = tmpfile();
+    pthread_t thread;
+    begin();
+    atomic_store(&is_waiting, 0);
+    atomic_store(&is_over, 0);
+    CHECK(file && fputs("add 10.0.0.0/8 1 192.0.2.1\n", file) >= 0);
+    rewind(file);
+    flockfile(file);
+    CHECK(pthread_create(&thread, NULL, load_locked, file) == 0);
+    while (!atomic_load(&is_waiting)) continue;
+    CHECK(nanosleep(&moment, NULL) == 0 && !atomic_load(&is_over));
+    funlockfile(file);
+    CHECK(pthread_join(thread, NULL) == 0 && atomic_load(&is_over) && fclose(file) == 0);
     end();
 }
 
@@ -614,7 +654,7 @@ static const struct {
 } tests[] = {{"fork_beside_readers", fork_beside_readers}, {"fork_beside_changes", fork_beside_changes},
     {"fork_while_reading", fork_while_reading}, {"refuse_barriers", refuse_barriers},
     {"refuse_barriers_in_midst", refuse_barriers_in_midst}, {"sandbox", sandbox}, {"cancel", cancel}, {"cancel_load", cancel_load},
-    {"wait_beside_busy", wait_beside_busy}, {"wake", wake}, {"lines", lines}};
+    {"lock_file", lock_file}, {"wait_beside_busy", wait_beside_busy}, {"wake", wake}, {"lines", lines}};
 
 /* With an argument, only the test with this name is run; the status is 2 if no test has it. */
 int main(int size, char **words)

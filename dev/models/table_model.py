@@ -202,6 +202,11 @@ def differences_text(old, new, by, names=({}, {})):
                    for first, last, was, now in differences(old, new, said))
 
 
+def report(feed, answers):
+    """The output of a run for a feed whose lines have these answers."""
+    return "".join(f"{feed}:{number} {answer}\n" for number, answer in enumerate(answers, 1) if answer)
+
+
 def ran(texts, refused, limit=65_536):
     """The lines of the reports that a run of these texts prints if these lines, by feed and number, are refused, and
     its table. Neither may be changed: the next call for the same texts returns them again."""
@@ -242,6 +247,8 @@ E1 = "E1: the first field is no command of this version"
 E3 = "E3: the field is no prefix or address"
 # What follows the message of a fault whose field ends with a carriage return.
 HAS_CR = " (the CR of CRLF is part of it)"
+# What follows the message of a fault whose field has `::`.
+IPV6 = " (IPv6 isn't supported)"
 E8 = "E8: the line has over 128 bytes"
 NOT_TAKEN = {
     "full": "adds over the limit", "exists": "duplicate adds",

@@ -26,10 +26,6 @@ class Definition:
         self.context = context
         self.name = key.rpartition(".")[2]
 
-    def count(self):
-        """Returns the number of its lines that aren't comments."""
-        return sum(not line.strip().startswith(("--", "//")) for line in self.lines)
-
 
 def uncommented(text):
     return re.sub(r"(?m)(?:^|(?<=\s))--.*$", "", text)
@@ -137,6 +133,7 @@ class ModuleReader:
             self.found[name], self.comment = self.current, []
 
 
+@functools.cache
 def constructors(definition):
     if not re.match(r"(pub )?data ", definition.lines[0]):
         return set()

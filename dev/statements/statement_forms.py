@@ -1,18 +1,15 @@
 """The form in which the statement pages print definitions, types and contracts: the words of the sources on fewer lines.
 
-- The words that only say how far a proof sees through a definition are left out, and so is `: Type 0` after a statement's
-  arguments: a definition without a type is a statement.
-- A definition with one case is printed as one equation, whose arguments have their types.
-- What is broken in the sources, but fits into a line, is joined. Short cases, fields and clauses share a line.
+- The words that only say how far a proof sees through a definition are left out.
+- What is broken in the sources, but fits into a line, is joined. Short cases and fields share a line.
+- Clauses are printed as the sources have them.
 - A comment of one line is printed after a field, a case of an `enum`, a definition or its head, if both fit into a line."""
 import re
 
 WIDTH = 120
 # Between two cases, fields or clauses on one line.
 GAP = ";  "
-SPACE = "  "
 KEYWORDS = re.compile(r"^(\s*)(?:(?:pub|abbrev|unfoldable) )+")
-VARIABLE = re.compile(r"[^\W\d][\w']*")
 LITERAL = re.compile(r'"(?:[^"\\]|\\.)*"')
 BRACED = re.compile(r"(pub(\(\w+\))? )?(struct|enum|trait|impl)\b")
 OPEN, CLOSED = "([{⟦", ")]}⟧"
@@ -107,68 +104,13 @@ def definition_lines(lines):
     if any(re.search(r"(^|\s)(--|let) ", line) for line in lines):
         return lines
     signature, *cases = [joined(block) for block in blocks_of(lines, 0)]
-    plain = [*broken(signature), *case_lines([shortest(*case.split(" = ", 1)) for case in cases])]
-    merged = one_equation(signature, cases[0]) if len(cases) == 1 else None
-    return merged if merged and len(merged) <= len(plain) else plain
-
-
-def one_equation(signature, case):
-    """Returns the lines of a definition whose only case is given, with the types of its arguments; None if they can't be
-    given there."""
-    name, _, kind = signature.partition(" : ")
-    head, _, body = case.partition(" = ")
-    arguments = with_types(split_at(kind, " → "), split_at(head, " ")[1:])
-    if arguments is None:
-        return None
-    typed, rest = arguments
-    return shortest(" ".join([name, *typed]) + ("" if rest == "Type 0" else f" : {rest}"), body)
-
-
-def shortest(head, body):
-    """Returns the lines of an equation: broken after `=`, unless another place makes fewer lines."""
-    whole = broken(f"{head} = {body}")
-    return whole if len(whole) == 1 else min([*broken(f"{head} ="), *broken(body, "    ", "      ")], whole, key=len)
+    return [*broken(signature), *case_lines(list(map(broken, cases)))]
 
 
 def case_lines(cases):
     """Returns the lines of cases: several on a line if that halves their number, so that others stay below one another."""
     lines = packed(cases)
     return lines if 2 * len(lines) <= sum(map(len, cases)) + 1 else [line for case in cases for line in case]
-
-
-def with_types(types, names):
-    """Returns arguments with their types, equal types together, and the type of what they give; None if an argument isn't
-    a variable, or has another name in the type."""
-    found, types, names = [], list(types), list(names)
-    while types and (names or types[0].startswith("{")):
-        kind = types.pop(0)
-        if kind.startswith("{"):
-            found.append((None, kind))
-            if names and names[0] == "{" + kind[1:].partition(" :")[0] + "}":
-                names.pop(0)
-            continue
-        bound = re.fullmatch(r"\(([^():]*) : (.*)\)", kind)
-        for said in bound[1].split() if bound else [None]:
-            if not names or not (VARIABLE.fullmatch(names[0]) or names[0] == "_") or said not in (None, names[0]):
-                return None
-            found.append((names.pop(0), bound[2] if bound else unbracketed(kind)))
-    return (grouped(found), " → ".join(types)) if types and not names else None
-
-
-def unbracketed(kind):
-    return kind[1:-1] if kind.startswith("(") and len(split_at(kind, " ")) == 1 else kind
-
-
-def grouped(arguments):
-    """Returns arguments as a head has them: those with the same type share a bracket."""
-    out, last = [], None
-    for name, kind in arguments:
-        if name and kind == last:
-            out[-1] = out[-1].replace(" : ", f" {name} : ", 1)
-        else:
-            out.append(f"({name} : {kind})" if name else kind)
-        last = kind if name else None
-    return out
 
 
 def record_lines(lines):
@@ -254,30 +196,6 @@ def is_type(lines):
 
 # -- contracts
 
-def contract_lines(head, clauses, comment=(), end=""):
-    """Returns the lines of a function's comment, head and clauses, with a note at their end: as few as can be. Short clauses
-    share a line, with the head if it has room. A comment of one line is printed after the head, or after all."""
-    parts = list(parts_of(clauses))
-    found = [[*comment, *head, *packed(parts, SPACE)]]
-    if len(comment) == len(head) == 1 and "//" not in head[0]:
-        behind = comment[0].replace("///", "//", 1)
-        found.append([head[0] + SPACE + behind, *packed(parts, SPACE)])
-        if not end and len(whole := packed([head, *parts], SPACE)) == 1:
-            found.append([whole[0] + SPACE + behind])
-    found.append([*comment, *packed([head, *parts], SPACE)])
-    found = [with_end(form, end) for form in found] if end else found
-    return min((form for form in found if form == found[0] or all(len(line) <= WIDTH for line in form)), key=len)
-
-
-def parts_of(clauses):
-    """Yields the lines of each clause. A comment between two clauses is printed above the second one."""
-    above = []
-    for clause in clauses:
-        comment = [line for line in clause if line.strip().startswith("//")]
-        yield [*above, *broken(joined(line for line in clause if line not in comment), "    ", "        ")]
-        above = [f"    {line.strip()}" for line in comment]
-
-
-def with_end(lines, end):
-    """Returns lines with a note, on the last line if that has room."""
-    return [*lines[:-1], lines[-1] + SPACE + end] if len(lines[-1] + SPACE + end) <= WIDTH else [*lines, f"    {end}"]
+def contract_lines(head, clauses, comment=()):
+    """Returns the lines of a function's comment, head and clauses."""
+    return [*comment, *head, *(line for clause in clauses for line in clause)]

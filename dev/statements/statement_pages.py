@@ -1,40 +1,41 @@
 """The pages of statements: public clauses, and below them the definitions that they rest on (dev/statements/statement). Their
 sentences are in statement_pages.toml. A chapter has one fence of clauses and one of definitions. A line in a fence names the
 files of the definitions and clauses below it. It has no numbers of lines, so a page changes only if its statements do."""
+import functools
 import itertools
 import pathlib
 import re
 import sys
 import textwrap
 import tomllib
+from dataclasses import dataclass
 
 from dev import prover
 from dev.crates import CRATES, TOP, all_crates
 from dev.statements.definition_reader import Definition, imports, parse_module, rests_on, rust_named, type_of, unique, words_of
-from dev.statements.implied_clauses import implied
 from dev.rust_sources import source, sources
-from dev.statements.statement_forms import WIDTH, contract_lines, joined, shown_parts, split_at, type_lines, with_comment
+from dev.statements.statement_forms import WIDTH, contract_lines, joined, shown_parts, type_lines, with_comment
 
 
+@dataclass(eq=False)
 class Chapter:
     """A chapter of a page: its sentence, what has to hold for it, its clauses, what ties them to the sources, and what the
     toolchain says of it."""
+    title: str
+    said: str
+    premises: str
+    clauses: list
+    ties: list = ()
+    kit: list = ()
 
-    def __init__(self, said):
-        self.title, self.said, self.premises, self.clauses = (said[key] for key in ("title", "said", "premises", "clauses"))
-        self.ties, self.kit = said.get("tie", ()), said.get("kit", ())
 
-
+@dataclass(eq=False)
 class Page:
     """A page in docs/: its file, its title, its introduction and its chapters."""
-
-    def __init__(self, name, title, said, chapters):
-        self.name, self.title, self.said, self.chapters = name, title, said, chapters
-
-
-def page_of(said):
-    """Returns the page that a table of statement_pages.toml describes."""
-    return Page(said["file"], said["title"], said["said"], [Chapter(one) for one in said["chapter"]])
+    name: str
+    title: str
+    said: str
+    chapters: list
 
 
 WORDS = tomllib.loads(pathlib.Path(__file__).with_suffix(".toml").read_text())
@@ -43,7 +44,7 @@ WORDS = tomllib.loads(pathlib.Path(__file__).with_suffix(".toml").read_text())
 SIGNS, LEGEND, BRIEF, KIT, WHOLE = (WORDS[key] for key in ("signs_page", "signs", "brief", "words", "whole"))
 # The types and traits of the kit that the pages name.
 KIT_TYPES = WORDS["types"]
-PAGES = [page_of(said) for said in WORDS["page"]]
+PAGES = [Page(**{**page, "chapters": [Chapter(**one) for one in page["chapters"]]}) for page in WORDS["page"]]
 PLAIN = {"Bool", "Err", "List", "None", "Ok", "Option", "Result", "Some", "false", "true", "none", "some", "ℕ"}
 
 
@@ -78,10 +79,9 @@ class Tie:
 
 
 class Clause:
-    """The contract of a public function: its comment, its clauses, and what they rest on. A page leaves out what
-    dev/statements/implied_clauses.py computes."""
+    """The contract of a public function: its comment, its clauses, and what they rest on."""
 
-    def __init__(self, said, is_whole=True):
+    def __init__(self, said):
         path, _, label = said.partition(".")
         parts = path.split("::")
         if len(parts) < 3 or parts[0] not in all_crates():
@@ -96,13 +96,10 @@ class Clause:
             self.clauses = [one for one in self.clauses if re.match(rf"\s*(requires\b|ensures\*? {label}\b)", one[0])]
             if not any("ensures" in clause[0] for clause in self.clauses):
                 sys.exit(f"dev/statements/statement: {said}: no such label")
-        self.implied = [] if label or is_whole else implied(self.file, self.head, self.clauses)
 
     def shown(self):
         """Returns its lines in a fence."""
-        printed = [one for one in self.clauses if not is_labelled(one, self.implied)]
-        also = f"// also: {', '.join(self.implied)}" if self.implied else ""
-        return contract_lines(self.head, printed, commented("///", self.comment), also)
+        return contract_lines(self.head, self.clauses, commented("///", self.comment))
 
     def rests_on(self):
         ghosts = imports(source(self.file).text)
@@ -117,10 +114,6 @@ class Clause:
         for word in rust:
             found += rust_named(self.file, word)
         return unique(found)
-
-
-def is_labelled(clause, labels):
-    return any(re.match(rf"\s*ensures\*? {label}\b", clause[0]) for label in labels)
 
 
 # The words before `fn` that the clauses of a page have in common.
@@ -195,34 +188,26 @@ def place_of(one):
     return name_of_file(one.file).parts[0]
 
 
+@functools.cache
 def speaks_of(one):
     return rests_on(one) if isinstance(one, Definition) else one.rests_on()
 
 
-def shown(definition, brief=(), contexts=None):
-    """The lines of a definition in a fence: its comment, the parameters around it, and itself. `contexts` has the parameters
-    that the fence gives further up, by name: of these only the names are printed."""
+def shown(definition, brief=()):
+    """The lines of a definition in a fence: its comment, the parameters around it, and itself."""
     is_spec = definition.file.suffix == ".antt"
     mark, (comment, lines) = "--" if is_spec else "///", shown_parts(definition)
     if definition.key in brief:
         lines = [re.sub(r" (where|\{)$", "", definition.lines[0])]
         comment += wrapped(f"Only its first line: {brief[definition.key]}", width=116)
     if definition.context and is_spec:
-        said = f"for every {', '.join(context_of(definition, {} if contexts is None else contexts))}"
+        said = f"for every {joined(definition.context)}"
         fits = comment and len(f"-- {comment[-1]}; {said}") <= WIDTH
         comment[-1:] = [f"{comment[-1]}; {said}"] if fits else [*comment[-1:], said]
     return with_comment(commented(mark, comment), lines)
 
 
-def context_of(definition, contexts):
-    """Yields the parameters around a definition: the names of those that `contexts` has, and others with their types."""
-    for parameter in split_at(" ".join(definition.context), " "):
-        names, _, kind = parameter[1:-1].partition(" : ")
-        given = dict.fromkeys(names.split(), (parameter[0], kind))
-        yield names if given.items() <= contexts.items() else parameter
-        contexts.update(given)
-
-
+@functools.cache
 def count(definition):
     """Returns the number of lines of a definition, without those of comments."""
     lines = with_comment([], shown_parts(definition)[1])
@@ -282,7 +267,7 @@ class Written:
         self.definitions = self.lines = 0
 
     def turn_to(self, page):
-        self.page, self.library, self.definitions, self.lines, self.has_implied = page, {}, 0, 0, False
+        self.page, self.library, self.definitions, self.lines = page, {}, 0, 0
 
     def has(self, definition, brief):
         self.home[definition.key] = None if definition.key in brief else self.page
@@ -314,8 +299,7 @@ def definitions_of(speakers, written, brief):
         sys.exit("dev/statements/statement: no comment says what this is: " + ", ".join(bare))
     spoken_of = {one.key for speaker in speakers + new for one in speaks_of(speaker) if isinstance(one, Definition)}
     out = from_others(old, spoken_of, written)
-    contexts = {}
-    out += fenced("agda", below_crates("--", new, lambda definition: shown(definition, brief, contexts)))
+    out += fenced("agda", below_crates("--", new, lambda definition: shown(definition, brief)))
     for definition in new:
         written.has(definition, brief)
     for module, names in words.items():
@@ -323,10 +307,15 @@ def definitions_of(speakers, written, brief):
     return out
 
 
+@functools.cache
+def speakers_of(one):
+    """Returns what a chapter prints above its definitions: its clauses, and what ties these to the sources."""
+    return [*map(Clause, one.clauses), *(Tie(**tie) for tie in one.ties)]
+
+
 def chapter(one, written):
     """A chapter: its sentence and its premises, its clauses, and what they rest on."""
-    speakers = [*(Clause(said, is_whole=False) for said in one.clauses), *(Tie(**tie) for tie in one.ties)]
-    written.has_implied |= any(isinstance(one, Clause) and one.implied for one in speakers)
+    speakers = speakers_of(one)
     out = ["", f"## {one.title}", "", *wrapped(f"{one.said} *Premises:* {one.premises}")]
     out += fenced("rust", below_crates("//", speakers, lambda one: one.shown()))
     for said in one.kit:
@@ -334,10 +323,10 @@ def chapter(one, written):
     return out + definitions_of(speakers, written, BRIEF)
 
 
+@functools.cache
 def lines_in_all(one):
     """How many lines a chapter's clauses and ties rest on, wherever they are printed, and those of the toolchain."""
-    speakers = [*map(Clause, one.clauses), *(Tie(**tie) for tie in one.ties)]
-    rest, _, _ = in_order(speakers, (), BRIEF)
+    rest, _, _ = in_order(speakers_of(one), (), BRIEF)
     of_toolchain = [part for said in one.kit for parts in kit_parts(**said) for part in parts]
     return sum(1 if part.key in BRIEF else count(part) for part in rest) + sum(map(count, of_toolchain))
 
@@ -408,8 +397,7 @@ def head_of(page, table, written):
     return [f"# {page.title}", "", *wrapped(
         f"{page.said} To judge the clauses, read them and the definitions below them, on this page {written.lines} lines in "
         f"{written.definitions} definitions and types. [{SIGNS['title']}]({SIGNS['file']}) explains their form and signs."), "",
-        "| Chapter | New definitions | Their lines | Lines in all |", "|---|---|---|---|", *table,
-        *["", *wrapped(WORDS["implied"]["said"])] * written.has_implied]
+        "| Chapter | New definitions | Their lines | Lines in all |", "|---|---|---|---|", *table]
 
 
 def anchor(title):
@@ -433,57 +421,46 @@ def page_text(lines):
     return "\n".join(lines).rstrip("\n") + "\n"
 
 
-def pages(written):
-    """The text of each page, and how many lines of definitions it has; `written` says afterwards what the pages have."""
-    for page in PAGES:
-        yield page, statement_page(page, written), written.lines
-
-
 def figures(page, lines):
     """Yields each number of lines that README.md may give for a page, with the pattern of its link: the page's, and that of
     each chapter. README.md names only some chapters."""
-    link = r"\[(\d+){}\]\(docs/" + re.escape(page.name) + r"{}\)"
+    link = r"\[(\d+)({}\]\(docs/" + re.escape(page.name) + r"{}\))"
     yield re.compile(link.format(r"\slines", "")), lines
     for one in page.chapters:
         yield re.compile(link.format("", "#" + anchor(one.title))), lines_in_all(one)
 
 
+def generated(written):
+    """Yields each file that is generated, with its text; `written` says afterwards what the pages have."""
+    readme = (TOP / "README.md").read_text()
+    yield page_file(SIGNS["file"]), signs_page()
+    yield page_file(WHOLE["file"]), whole_promise()
+    for page in PAGES:
+        yield page_file(page.name), statement_page(page, written)
+        for at, (pattern, number) in enumerate(figures(page, written.lines)):
+            readme, found = pattern.subn(rf"[{number}\2", readme)
+            if at == 0 and not found:
+                sys.exit(f"README.md: docs/{page.name} has {number} lines of definitions")
+    yield TOP / "README.md", readme
+
+
 def check():
-    """Ends with a fault if a page that is kept or a number of lines on the front page differs. Returns what the pages have."""
-    readme, written = (TOP / "README.md").read_text(), Written()
-    check_page(SIGNS["file"], signs_page())
-    check_page(WHOLE["file"], whole_promise())
-    for page, text, lines in pages(written):
-        check_page(page.name, text)
-        (whole, lines), *chapters = figures(page, lines)
-        if not whole.search(readme):
-            sys.exit(f"README.md: docs/{page.name} has {lines} lines of definitions")
-        for pattern, wanted in [(whole, lines), *chapters]:
-            for said in pattern.finditer(readme):
-                if int(said[1]) != wanted:
-                    sys.exit(f"README.md: {said[0]} has {wanted} lines of definitions")
+    """Ends with a fault if a file differs from what is generated. Returns what the pages have."""
+    written = Written()
+    for file, text in generated(written):
+        if not file.exists() or file.read_text() != text:
+            sys.exit(f"{file.relative_to(TOP)} is not what dev/statements/statement --write would write")
     return written
+
+
+def write():
+    for file, text in generated(Written()):
+        file.write_text(text)
+        print(f"{file.relative_to(TOP)}: {text.count(chr(10))} lines")
 
 
 def page_file(name):
     return TOP / "docs" / name
-
-
-def check_page(name, text):
-    file = page_file(name)
-    if not file.exists() or file.read_text() != text:
-        sys.exit(f"docs/{name} is not what dev/statements/statement --write would write")
-
-
-def write():
-    readme = TOP / "README.md"
-    page_file(SIGNS["file"]).write_text(signs_page())
-    page_file(WHOLE["file"]).write_text(whole_promise())
-    for page, text, lines in pages(Written()):
-        page_file(page.name).write_text(text)
-        for pattern, number in figures(page, lines):
-            readme.write_text(pattern.sub(lambda old: old[0].replace(old[1], str(number), 1), readme.read_text()))
-        print(f"docs/{page.name}: {lines} lines")
 
 
 def of_clauses(said):
