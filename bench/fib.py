@@ -16,9 +16,11 @@ import subprocess
 import sys
 import tempfile
 
-sys.path.insert(1, str(pathlib.Path(__file__).resolve().parents[1]))
-from dev import checks, figures
-from others import built_lpm, drawn, has_patricia, patricia_rows, printed, radix_rows, write_input
+sys.path[0] = str(pathlib.Path(__file__).resolve().parents[1])
+from bench import results
+from bench.others import built_lpm, drawn, has_patricia, patricia_rows, printed, radix_rows, write_input
+from bench.programs import built_benches, built_peer
+from dev.crates import TOP
 
 ASKED = 1 << 20
 PLACES = 1000
@@ -126,16 +128,16 @@ def show(row):
 
 def built(folder):
     """The programs by name; without rte_lpm if it isn't installed."""
-    subprocess.run(["gcc", "-O2", "-o", folder / "c", checks.TOP / "bench/fib_peer.c"], check=True)
-    rust = figures.built_peer(folder, "fib_peer.rs")
-    return {"Rattle": checks.built_benches("fib", "2000"), "C": folder / "c", "Rust": rust,
+    subprocess.run(["gcc", "-O2", "-o", folder / "c", TOP / "bench/fib_peer.c"], check=True)
+    rust = built_peer(folder, "fib_peer.rs")
+    return {"Rattle": built_benches("fib", "2000"), "C": folder / "c", "Rust": rust,
             "rte_lpm": built_lpm(folder)}
 
 
 def main():
-    reader = figures.reader(__doc__, rounds=5)
+    reader = results.reader(__doc__, rounds=5)
     reader.add_argument("prefixes", nargs="*", type=int, default=[500_000, 1_000_000])
-    words = figures.begin(reader)
+    words = results.begin(reader)
     rows = []
     with tempfile.TemporaryDirectory() as name:
         folder = pathlib.Path(name)
@@ -146,7 +148,7 @@ def main():
             for row in some:
                 show(row)
             rows += some
-    figures.keep("fib", words.rounds, rows)
+    results.keep("fib", words.rounds, rows)
 
 
 if __name__ == "__main__":

@@ -13,8 +13,9 @@ import subprocess
 import sys
 import tempfile
 
-sys.path.insert(1, str(pathlib.Path(__file__).resolve().parents[1]))
-from dev import checks, figures
+sys.path[0] = str(pathlib.Path(__file__).resolve().parents[1])
+from bench import results
+from bench.programs import built_benches, built_peer
 
 
 def timed(program, prefixes):
@@ -57,17 +58,17 @@ def compare(programs, prefixes, rounds):
 
 
 def main():
-    reader = figures.reader(__doc__, rounds=5)
+    reader = results.reader(__doc__, rounds=5)
     reader.add_argument("prefixes", nargs="*", type=int, default=[3_000, 30_000, 500_000])
-    words = figures.begin(reader)
+    words = results.begin(reader)
     rounds, rows = words.rounds, []
     with tempfile.TemporaryDirectory() as folder:
-        peer = figures.built_peer(pathlib.Path(folder), "trie_peer.rs")
-        programs = [checks.built_benches("trie", "2000"), "trie"], [peer]
+        peer = built_peer(pathlib.Path(folder), "trie_peer.rs")
+        programs = [built_benches("trie", "2000"), "trie"], [peer]
         print(f"{'prefixes':8} {'call':8} {'clock':>8} {'plain':>8} {'ratio':>6} {'cpu':>8} {'plain':>8} {'ratio':>6}")
         for prefixes in words.prefixes:
             rows += compare(programs, prefixes, rounds * max(1, 100_000 // prefixes))
-    figures.keep("trie", rounds, rows)
+    results.keep("trie", rounds, rows)
 
 
 if __name__ == "__main__":

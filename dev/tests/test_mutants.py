@@ -303,8 +303,8 @@ class Lists(TestCase):
     def test_list_prints_each_name_once(self):
         for name in ("mutants", "definitions"):
             with self.subTest(name):
-                listed = call([TOP / "dev/mutants" / name, "--list"]).stdout.split()
-                headings = [f"{crate}:{heading}" for crate in all_crates()
+                listed = call([TOP / "dev/mutants" / name, "--list"]).stdout.splitlines()
+                headings = [f"{name[:-1]} {crate}/{heading}" for crate in all_crates()
                             for file in CRATES.glob(f"{crate}/must-fail/{name}.md")
                             for heading in re.findall(r"^## (.*)", file.read_text(), re.M)]
                 self.assertEqual(sorted(listed), sorted(headings))

@@ -5,7 +5,7 @@ A bench that is called with `--store` writes its file there. `bench/tables.py` m
 of these files, and `bench/draw_figures.py` the pictures. It measures in the ordinary scheduling class, and doesn't
 begin to measure for a file while the machine has other work: half a processor's or more. It measures with the memory
 that ./yarib and what is installed start the program with, or, with `--default-memory`, with the C library's own; the
-plain programs have the same. Other programs of the benchmarks are built here too."""
+plain programs have the same."""
 import argparse
 import datetime
 import json
@@ -13,13 +13,11 @@ import os
 import pathlib
 import platform
 import re
-import subprocess
 import sys
 import time
 
-# The module that tests the program knows how it is built and how the launchers start it.
-from dev import checks
 from dev.crates import TOP
+from dev.testing import launched
 
 FOLDER = TOP / "bench" / "figures"
 # How tables and figures name the memory settings of a measurement. None is for counts, and if only one thread
@@ -30,7 +28,7 @@ asked, began = argparse.Namespace(store=False, default_memory=False), None
 
 
 def reader(about, **numbers):
-    """The parser of a benchmark's arguments: these numbers in order, each with its default, and flags."""
+    """Returns the parser of a benchmark's arguments: these numbers in order, each with its default, and flags."""
     found = argparse.ArgumentParser(description=about, formatter_class=argparse.RawDescriptionHelpFormatter)
     found.add_argument("--store", action="store_true",
                        help="keep the results in bench/figures/; needs a quiet machine")
@@ -51,7 +49,7 @@ def begun(words):
     asked = words
     if asked.store and (others := working_processors()) > 0.5:
         sys.exit(f"{sys.argv[0]}: {others:.1f} processors are busy with other work; try again on a quiet machine")
-    for name, value in checks.LAUNCHED.items():
+    for name, value in launched().items():
         os.environ.pop(name, None)
         if memory() == "launcher":
             os.environ[name] = value
@@ -62,48 +60,41 @@ def begun(words):
 
 
 def environment(subcommand):
-    """The environment of a program that is started with this subcommand, with the memory that is measured."""
-    return os.environ | (checks.launched(subcommand) if memory() == "launcher" else {})
-
-
-def built_peer(folder, source):
-    """The path of a program in plain Rust, built in the directory from its source in bench/."""
-    subprocess.run(["rustc", "--edition", "2024", "-C", "opt-level=3", "-o", folder / "peer", TOP / "bench" / source],
-                   check=True)
-    return folder / "peer"
+    """Returns the environment of a program that is started with this subcommand, with the memory that is measured."""
+    return os.environ | (launched(subcommand) if memory() == "launcher" else {})
 
 
 def memory():
-    """The memory settings that are measured: the launcher's, or the default of the C library."""
+    """Returns the memory settings that are measured: the launcher's, or the default of the C library."""
     return "default" if asked.default_memory else "launcher"
 
 
 def working_processors():
-    """The number of processors that the machine's work uses, by the kernel's counts over a second."""
+    """Returns the number of processors that the machine's work uses, by the kernel's counts over a second."""
     before = working_seconds()
     time.sleep(1)
     return working_seconds() - before
 
 
 def working_seconds():
-    """The processor time since the start of the machine that was not idle, in seconds."""
+    """Returns the processor time since the start of the machine that was not idle, in seconds."""
     user, nice, system, _idle, _waiting, *rest = pathlib.Path("/proc/stat").read_text().split("\n")[0].split()[1:9]
     return sum(int(part) for part in (user, nice, system, *rest)) / os.sysconf("SC_CLK_TCK")
 
 
 def stolen_seconds():
-    """The processor time since the start of the machine that its host gave to others, in seconds."""
+    """Returns the processor time since the start of the machine that its host gave to others, in seconds."""
     return int(pathlib.Path("/proc/stat").read_text().split()[8]) / os.sysconf("SC_CLK_TCK")
 
 
 def stolen():
-    """The average number of processors that the host withheld during the measurement."""
+    """Returns the average number of processors that the host withheld during the measurement."""
     clock, before = began
     return round((stolen_seconds() - before) / (time.monotonic() - clock), 2)
 
 
 def machine():
-    """The machine in one line: its processors, whether they are virtual, and the kernel."""
+    """Returns the machine in one line: its processors, whether they are virtual, and the kernel."""
     about = pathlib.Path("/proc/cpuinfo").read_text()
     model = re.search(r"^model name\s*: (.*)$", about, re.M)
     kind = "virtual processors" if re.search(r"^flags\s*:.*\bhypervisor\b", about, re.M) else "processors"
@@ -129,5 +120,5 @@ def keep(name, rounds, rows):
 
 
 def kept(name):
-    """The contents of the file with this name."""
+    """Returns the contents of the file with this name."""
     return json.loads((FOLDER / f"{name}.json").read_text())
