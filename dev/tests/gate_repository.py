@@ -12,7 +12,7 @@ import subprocess
 import tempfile
 
 from dev.crates import TOP
-from dev.testing import TestCase, call, needs_command
+from dev.testing import TestCase, call, environment, needs_command
 
 # The modules of tests, with their constants.
 MODULES = {"dev.tests.test_pages": "", "dev.tests.test_build": "", "tests.test_rows": 'NEEDS = {"program"}',
@@ -162,7 +162,7 @@ class Repository:
                               stdout=subprocess.PIPE, text=True).stdout.strip()
 
     def environment(self, breaks="", **more):
-        return os.environ | {"PATH": f"{self.folder}/bin:{os.environ['PATH']}", "BREAKS": breaks, "TMPDIR": str(self.work),
+        return environment() | {"PATH": f"{self.folder}/bin:{os.environ['PATH']}", "BREAKS": breaks, "TMPDIR": str(self.work),
                              "NOTES": str(self.notes), "RT_JOBS": "1"} | more
 
     def test(self, *words, breaks="", by="test", **more):
