@@ -25,6 +25,11 @@ class Heap(LibraryCase):
         self.varies()
         self.run_parts("heap", self.build("heap"), stdout=r"(?s:.*)")
 
+    def test_whole(self):
+        """All parts, one after another, on the slabs that the ones before leave."""
+        self.varies()
+        self.run_counted(self.build("heap"), stdout=r"(?s:.*)", least=1000)
+
     def test_sanitizers(self):
         self.varies()
         for name, (options, parts) in SANITIZERS.items():

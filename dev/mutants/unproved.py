@@ -14,6 +14,7 @@ lists them in the form of the crates' mutants, with the test that has to notice 
 `⏎` denotes the end of a line. The old text is in the function that is named exactly once, as NAME, or TYPE.NAME for a method; without
 a line `in:` it is outside all functions exactly once. So other functions may have the same text."""
 import ast
+import functools
 import re
 from typing import NamedTuple
 
@@ -103,6 +104,7 @@ def indented_functions(text, head):
     return found
 
 
+@functools.cache
 def functions(file, text):
     """Returns the name of each function of a file, and where it begins and ends."""
     if file.endswith(".py"):
