@@ -22,7 +22,8 @@ NAMED = ("crates/*/src/**/*.rt", "crates/*/specs/**/*.antt", "crates/*_examples/
 # A path on a page, and those that are placeholders, that a command writes, or that are the reader's or the toolchain's.
 PATH = re.compile(r"(?!\d)(?:[\w.-]+/[\w./-]+|\w[\w.-]*\.(?:antt|c|feed|h|in|json|md|py|rt|sh|toml|txt))")
 ELSEWHERE = re.compile(r"(?:.*\W)?(?:NAME|CRATE|[A-Za-z])(?:\W.*)?|(?:.*/)?out(?:/.*)?|EVIDENCE\.json"
-                       r"|bin/yarib|libexec/yarib/yarib|changes\.txt|merged\.feed|NAME.*|net/netip|specs/Lent\.antt|toolchain/bin/clang")
+                       r"|bin/yarib|libexec/yarib/yarib|changes\.txt|merged\.feed|NAME.*|net/netip|specs/Lent\.antt"
+                       r"|toolchain/bin/clang")
 
 
 def anchors(page):
