@@ -13,7 +13,7 @@ import pathlib
 import re
 import tempfile
 
-from dev.checks import unproved_benches
+from bench.programs import unproved_benches
 from dev.models.table_model import Table, dotted, shown
 from dev.testing import needs_command
 from tests.refusing import RefusedCase, agree
@@ -237,6 +237,10 @@ class Calls(RefusedCase):
     def assert_call(self, word, check):
         self.assert_each_refused(["growth", word], check_crate(check), command=benches()[0])
         self.assertEqual(self.kinds, KINDS[word])
+
+    def test_the_benches(self):
+        """No renaming in a library breaks the program of the benches unseen."""
+        self.assert_ended(self.call(benches()[0], "fib", "500"), None)
 
     def test_the_lock(self):
         self.assert_call("lock", check_lock)
