@@ -73,6 +73,13 @@ def compiled(folder, source, *options):
     return target
 
 
+@functools.cache
+def library(source):
+    """Returns the path of a library of this source in C, which exists until the process ends, and its directory."""
+    folder = tempfile.TemporaryDirectory(prefix="yarib-test-")
+    return compiled(pathlib.Path(folder.name), source, "-shared", "-fPIC"), folder
+
+
 def launched(subcommand="run", limited=False):
     """Returns the setting that the launchers make before they start the program with this subcommand, as in ./yarib's own
     lines: arenas of large pages, which request address space in large pieces if several are filled and it isn't limited."""
@@ -152,6 +159,13 @@ class TestCase(unittest.TestCase):
     def yarib(self, *words, **settings):
         """Calls the program in the test's directory, and returns how it ended."""
         return self.call(program(), *words, **settings)
+
+    def preloaded(self, source):
+        """Returns the variable that loads a library of this source in C before a program, which has to be called in the
+        test's directory: no path with a space can be loaded, so the library is put there."""
+        path = library(source)[0]
+        shutil.copy(path, self.folder)
+        return {"LD_PRELOAD": f"./{path.name}"}
 
     def assert_ended(self, ended, stdout="", stderr="", returncode=0, message=None):
         """Fails unless the call ended with this status and these outputs; None takes any output. Of long outputs the

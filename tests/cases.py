@@ -1,9 +1,9 @@
 """What the tests of the program share: a call with how it has to end, a refused command line, and random tables."""
 import shlex
 
+from dev.models.calls import ROWS
 from dev.models.table_model import TOO_MANY_FILES, Table, dotted, row
 from dev.testing import TestCase
-from tests.texts import ROW
 
 TOO_MANY = {"stderr": TOO_MANY_FILES, "returncode": 3}
 TRY_HELP = "\n\nFor more information, try '--help'.\n"
@@ -25,7 +25,7 @@ class ProgramCase(TestCase):
 
     def setUp(self):
         self.names = {}
-        self.write({"row.feed": ROW, "empty.feed": "", "faulty.feed": "frob\n"})
+        self.write(ROWS)
 
     def named(self, name):
         """Begins a subTest; a name that comes again has a number."""

@@ -1,6 +1,7 @@
-/* Counts memory requests. Loaded before a program by LD_PRELOAD, it keeps four counts in the file of descriptor
+/* Counts memory requests. Loaded before a program by LD_PRELOAD, it keeps these counts in the file of descriptor
    COUNT_IN: the requests (malloc, calloc, realloc and the aligned ones), their blocks and bytes that are still held,
-   the writes to standard output, and the requests before each write. It depends on names of glibc. */
+   the writes to standard output, the bytes of the largest request, the threads, the requests of each thread, and the
+   requests before each write. It depends on names of glibc. */
 #define _GNU_SOURCE
 #include <dlfcn.h>
 #include <errno.h>
@@ -14,24 +15,34 @@ extern void *__libc_malloc(size_t), *__libc_calloc(size_t, size_t), *__libc_real
     *__libc_memalign(size_t, size_t);
 extern void __libc_free(void *);
 
-enum { WRITES = 1000 };
+enum { WRITES = 1000, THREADS = 256 };
 
 struct counts {
-  atomic_ulong requests, blocks, bytes, writes;
+  atomic_ulong requests, blocks, bytes, writes, largest, threads, by_thread[THREADS];
   unsigned long at_write[WRITES];
 };
 
 static struct counts unread, *counts = &unread;
+static _Thread_local unsigned long thread; /* its number, from 1, or 0 if it has requested nothing */
 
 __attribute__((constructor)) static void begin(void) {
   const char *descriptor = getenv("COUNT_IN");
   if (descriptor == NULL) return;
   void *shared = mmap(NULL, sizeof *counts, PROT_READ | PROT_WRITE, MAP_SHARED, atoi(descriptor), 0);
   if (shared != MAP_FAILED) counts = shared;
+  thread = 0;
 }
 
-static void *made(void *block) {
+static void note(size_t size) {
   counts->requests++;
+  if (thread == 0) thread = ++counts->threads;
+  if (thread <= THREADS) counts->by_thread[thread - 1]++;
+  unsigned long largest = counts->largest;
+  while (largest < size && !atomic_compare_exchange_weak(&counts->largest, &largest, size)) continue;
+}
+
+static void *made(void *block, size_t size) {
+  note(size);
   if (block != NULL) {
     counts->blocks++;
     counts->bytes += malloc_usable_size(block);
@@ -39,11 +50,11 @@ static void *made(void *block) {
   return block;
 }
 
-void *malloc(size_t size) { return made(__libc_malloc(size)); }
+void *malloc(size_t size) { return made(__libc_malloc(size), size); }
 
-void *calloc(size_t count, size_t size) { return made(__libc_calloc(count, size)); }
+void *calloc(size_t count, size_t size) { return made(__libc_calloc(count, size), count * size); }
 
-void *memalign(size_t align, size_t size) { return made(__libc_memalign(align, size)); }
+void *memalign(size_t align, size_t size) { return made(__libc_memalign(align, size), size); }
 
 void *aligned_alloc(size_t align, size_t size) { return memalign(align, size); }
 
@@ -65,7 +76,7 @@ void free(void *block) {
 void *realloc(void *old, size_t size) {
   size_t before = old == NULL ? 0 : malloc_usable_size(old);
   void *block = __libc_realloc(old, size);
-  counts->requests++;
+  note(size);
   if (block == NULL) return NULL;
   counts->blocks += old == NULL;
   counts->bytes += malloc_usable_size(block) - before;

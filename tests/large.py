@@ -17,14 +17,16 @@ import subprocess
 import tempfile
 
 sys.path.insert(1, str(pathlib.Path(__file__).resolve().parents[1]))
-from dev import checks, figures
+from bench import results
+from bench.timing import taken
+from dev import checks
+from dev.crates import TOP
 from dev.models.inputs import real_prefixes, write_apart
 from dev.models.table_model import dotted
-from dev.timed import taken
 from texts import AGAIN
 
 ROWS = []
-CONVERTER = figures.TOP / "convert/bgpdump-to-feeds"
+CONVERTER = TOP / "convert/bgpdump-to-feeds"
 PEERS, ROUTES, ADDRESSES = (1, 8, 32), 1_050_000, 20_000
 DUMPED = "TABLE_DUMP2|1|B|127.0.0.{0}|{0}|{1}|{2}|IGP|192.0.2.{0}|0|0||NAG||\n"
 PATHS = [" ".join(["1"] * length) for length in range(1, 6)]
@@ -33,7 +35,7 @@ PATHS = [" ".join(["1"] * length) for length in range(1, 6)]
 def measured(words):
     """Seconds, peak bytes, status and the end of the output of one run."""
     with tempfile.TemporaryFile() as output:
-        seconds, usage, child = taken(words, stdout=output, env=figures.environment(words[1]))
+        seconds, usage, child = taken(words, stdout=output, env=results.environment(words[1]))
         size = output.seek(0, os.SEEK_END)
         output.seek(max(0, size - 60))
         return seconds, usage.ru_maxrss * 1024, child.returncode, output.read().decode()
@@ -99,7 +101,7 @@ def full_tables(program):
         best = [f"192.0.2.{best_peer(place, peers)}" for place in range(len(prefixes))]
         with open("table.txt", "w+") as output:
             seconds, usage, child = taken([program, "table", "--best", *feeds], stdout=output,
-                                          env=figures.environment("table"))
+                                          env=results.environment("table"))
             output.seek(0)
             differing = sum(1 for line, (base, length), hop in itertools.zip_longest(output, prefixes, best)
                             if (line.split()[0], line.split()[-1]) != (f"{dotted(base)}/{length}", hop))
@@ -130,9 +132,9 @@ CASES = [many_lines, long_lines, full_tables]
 
 
 def main():
-    words = figures.begun(checks.chosen(__doc__, CASES, flags=("--store", "--default-memory")))
+    words = results.begun(checks.chosen(__doc__, CASES, flags=("--store", "--default-memory")))
     checks.run_each(words.cases, words.program)
-    figures.keep("large", 1, ROWS)
+    results.keep("large", 1, ROWS)
     checks.end()
 
 

@@ -13,7 +13,6 @@ NEEDS = {"program"}
 
 BY_ROUTE = ["--by", "route"]
 BY_NAME = ["--by", "route", "--names"]
-HALVES = "add 0.0.0.0/1 1 192.0.2.1\nadd 128.0.0.0/1 1 192.0.2.{}\n".format
 KINDS = ("another next hop", "gets a route", "loses its route", "is discarded", "isn't discarded any more",
          "the same next hop by another route")
 
@@ -41,6 +40,7 @@ class DiffCase(ProgramCase):
 class Ranges(DiffCase):
     # Catches `diff_texts` always returning F3 or `Write`.
     # Catches a program that doesn't report rejected input of the new files: `diff ends.feed -- faulty.feed`.
+    # Catches a number of addresses that is cut to 32 bits: `diff --count unlike-halves.feed -- discards.feed`.
     def test_calls(self):
         self.assert_calls(calls.COMPARED_FILES, calls.COMPARED)
 
@@ -97,11 +97,6 @@ class Json(DiffCase):
                     self.assertEqual((ended.returncode, ended.stderr), (plain.returncode, ""))
                     self.assertEqual([json.loads(line) for line in ended.stdout.splitlines()], wanted)
 
-    def test_to_the_byte(self):
-        self.assert_prints("diff --json row.feed -- empty.feed",
-                           '{"first":"10.0.0.0","last":"10.255.255.255","old":{"via":"192.0.2.1"},"new":null}\n', "", 1)
-        self.assert_prints("diff --json row.feed -- row.feed")
-
 
 class Prefixes(DiffCase):
     # Catches a comparison that ignores `--prefixes`, or prints halves of a prefix, prefixes beyond the range, or too few:
@@ -117,10 +112,7 @@ class Prefixes(DiffCase):
                 self.assert_prints(["diff", "--prefixes", *more, *of_both(old, new)], wanted, "", ranges.returncode,
                                    name=f"{' '.join(more)}, {number} routes")
 
-    def test_ends(self):
-        self.write({"halves.feed": HALVES(1)})
-        self.assert_prints("diff --prefixes empty.feed -- halves.feed", "0.0.0.0/0 no route -> via 192.0.2.1\n", "", 1)
-        self.assert_prints("diff --prefixes row.feed -- row.feed")
+    def test_options(self):
         self.assert_misused("diff --prefixes --prefixes row.feed -- row.feed", "--prefixes")
         self.assert_misused("table --prefixes row.feed", "--prefixes")
 
@@ -150,22 +142,7 @@ class Counts(DiffCase):
                     self.assert_prints(["diff", "--count", *more, *form, *of_both(old, new)], wanted, "", ranges.returncode,
                                        name=f"{' '.join([*more, *form, ''])}{number} routes")
 
-    # Catches a number of addresses that is cut to 32 bits: `diff --count halves.feed -- discards.feed`.
-    def test_every_address(self):
-        self.write({"halves.feed": HALVES(2), "discards.feed": "version 2\nadd 0.0.0.0/0 1 discard\n"})
-        self.assert_prints("diff --count halves.feed -- discards.feed", """\
-ranges 2 addresses 4294967296
-change is discarded ranges 2 addresses 4294967296
-hops via 192.0.2.1 -> discard ranges 1 addresses 2147483648
-hops via 192.0.2.2 -> discard ranges 1 addresses 2147483648
-""", "", 1)
-        self.assert_prints("diff --json --count discards.feed -- empty.feed", (
-            '{"ranges":1,"addresses":4294967296}\n{"change":"loses its route","ranges":1,"addresses":4294967296}\n'
-            '{"old":{"via":null,"discard":true},"new":null,"ranges":1,"addresses":4294967296}\n'), "", 1)
-
-    def test_ends(self):
-        self.assert_prints("diff --count row.feed -- row.feed", "ranges 0 addresses 0\n")
-        self.assert_prints("diff --count --json row.feed -- row.feed", '{"ranges":0,"addresses":0}\n')
+    def test_options(self):
         for both in ("--count --prefixes", "--prefixes --json --count"):
             self.assert_refused(f"diff {both} missing.feed -- missing.feed", "only one of --prefixes and --count may be given")
         self.assert_misused("diff --count --count row.feed -- row.feed", "--count")

@@ -1,8 +1,9 @@
 """The program's files: names, what can't be read, reports on standard error, and outputs that can't be written."""
 import os
 
+from dev.models import calls
 from dev.models.table_model import E1, E8, MAX_FEEDS
-from tests.cases import ProgramCase, route, table
+from tests.cases import ProgramCase, route
 from tests.texts import ROW, ROW_OUT
 
 NEEDS = {"program"}
@@ -11,7 +12,6 @@ FAULTY = "yarib: {}: faulty lines: {}, the first is line {}: {}\n".format
 OVER = "yarib: {}: adds over the limit: {}, the first is line {}\n".format
 TWICE = "yarib: {}: duplicate adds: {}, the first is line {}\n".format
 GONE = "yarib: {}: replaces and withdraws without a route: {}, the first is line {}\n".format
-CUT = "yarib: {}: the last line has no line end: check that the file is complete\n".format
 FOUND = "10.0.0.1 route "
 # Calls with an output, and calls without one.
 WRITING = [
@@ -132,39 +132,11 @@ class Reports(ProgramCase):
 
 
 class CutFiles(ProgramCase):
-    """A feed file whose last line has no line end is reported, and its last line is executed."""
-
-    def setUp(self):
-        super().setUp()
-        self.write({"whole.feed": "add 10.0.0.0/8 100 192.0.2.12\n", "cut.feed": "add 10.0.0.0/8 100 192.0.2.1"})
-
-    # Catches a report with a status of its own, or one that replaces that of rejected input: `cut within a faulty line`.
-    def test_queries(self):
-        cut, second = CUT("cut.feed"), route(2)
-        self.assert_prints("run cut.feed", "1:1 added\n" + table(route(1)), name="a run, which only writes its faults")
-        self.assert_prints("lookup --address 10.0.0.1 cut.feed", FOUND + route(1), cut)
-        for options, rows in ("", second), ("--best --total", second + "total 1\n"), ("--within 11.0.0.0/8", ""):
-            self.assert_prints(f"table {options} empty.feed cut.feed", rows, cut)
-        self.assert_prints("table --without 1 cut.feed whole.feed", route(2, hop="192.0.2.12"))
-        self.assert_prints("table --feed 2 cut.feed empty.feed", "", cut)
-        self.assert_unreadable("table cut.feed missing.feed", "missing.feed")
-        self.write({"cut.txt": "10.0.0.1"})
-        self.assert_prints("lookup --addresses cut.txt whole.feed", FOUND + route(1, hop="192.0.2.12"))
-
-    def test_both_sides(self):
-        lines = "10.0.0.0-10.255.255.255 via 192.0.2.12 -> via 192.0.2.1\n"
-        self.assert_prints("diff whole.feed -- cut.feed", lines, CUT("cut.feed"), 1)
-        self.assert_prints("diff cut.feed -- cut.feed", "", CUT("cut.feed") * 2)
-
-    # Catches a program that reports a cut file only if its last line is a command: `a comment`.
-    # Catches a program that reports a file that has no line, or one whose last line is empty: `an empty file`, `an empty line`.
-    def test_last_lines(self):
-        cut = CUT("some.feed")
-        for name, text, report in (
-                ("an empty file", "", ""), ("an empty line", "\n", ""), ("a comment", "# cut", cut), ("the version", "version 2", cut),
-                ("cut within a faulty line", "\nad", FAULTY("some.feed", 1, 2, E1) + cut)):
-            self.write({"some.feed": text})
-            self.assert_prints("table some.feed", "", report, 2 if "faulty" in report else 0, name=name)
+    # Catches a program that reports a cut file only if its last line is a command: `table comment.feed`.
+    # Catches a program that reports a file that has no line, or one whose last line is empty: `no-line.feed`, `empty-line.feed`.
+    # Catches a report with a status of its own, or one that replaces that of rejected input: `table faulty-line.feed`.
+    def test_calls(self):
+        self.assert_calls(calls.CUT_FILES, calls.CUT)
 
 
 class Outputs(ProgramCase):

@@ -6,7 +6,7 @@ import pathlib
 import random
 import re
 
-from dev.models.table_model import MAX_FEEDS, ROUTE_COLUMNS, csv_of, json_text, members
+from dev.models.table_model import MAX_FEEDS, ROUTE_COLUMNS, csv_of, members
 from tests.cases import TOO_MANY, ProgramCase, printable
 
 NEEDS = {"program"}
@@ -98,15 +98,6 @@ class Json(FormatCase):
                     found = self.stdout(*command, "--json", *flags, *paths)
                     self.assertEqual([json.loads(line, object_pairs_hook=unlike_twice) for line in found.split("\n")[:-1]], wanted)
                     self.assertEqual(found[-1:], "\n")
-
-    def test_to_the_byte(self):
-        self.assert_prints("lookup --json --all --address 10.1.2.3 empty.feed", '{"address":"10.1.2.3","route":null,"also":[]}\n')
-        self.assert_prints("lookup --json --address 10.1.2.3 empty.feed", '{"address":"10.1.2.3","route":null}\n')
-        self.assert_prints("table --json empty.feed")
-        self.write_offers(["east.feed"])
-        routes = [("0.0.0.0/0", 1, 0, "192.0.2.3"), ("10.0.0.0/8", 1, 5, "discard"), ("10.1.0.0/16", 1, 70, "192.0.2.4")]
-        self.assert_prints("table --json east.feed",
-                           "".join(json_text(members(route, file="east.feed")) + "\n" for route in routes))
 
 
 # The same route in each syntax, to the byte: all columns of each command, an address without a route and no row at all.

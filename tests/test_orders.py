@@ -6,8 +6,7 @@ import sys
 import time
 from typing import NamedTuple
 
-from dev.models.table_model import route_text, table_text
-from dev.models.worked import report
+from dev.models.table_model import report, route_text, table_text
 from dev.testing import is_unproved
 from tests import linearizability
 from tests.cases import ProgramCase
@@ -119,7 +118,6 @@ class RandomRuns(ProgramCase):
         if len(os.sched_getaffinity(0)) > 1:
             self.assertGreaterEqual(interleaved, runs // 10)
 
-    # Catches a judge that finds an order for every output.
     def assert_no_order(self, change, least):
         """Fails unless no order explains at least so many outputs that were changed."""
         self.varies()
@@ -131,6 +129,7 @@ class RandomRuns(ProgramCase):
                 self.assertFalse(drawn.explains(output, drawn.batch), f"seed {seed}")
         self.assertGreaterEqual(changed, least)
 
+    # Catches a judge that finds an order for every output.
     def test_no_order_explains_a_lost_withdrawal(self):
         self.assert_no_order(losing_a_withdrawal, 20)
 

@@ -56,7 +56,7 @@ class TerminalCase(ProgramCase):
         a long one only before its output. In a ticked run the line's seconds take milliseconds until it is `waits_for`."""
         began = time.monotonic()
         waits, ticks = os.pipe()
-        ticked = {"env": loaded(TICKS_IN=waits), "pass_fds": [waits]} if is_ticked else {}
+        ticked = {"env": loaded(self, TICKS_IN=waits), "pass_fds": [waits]} if is_ticked else {}
         child, screen = self.start(words, stdout="terminal" if out_too else subprocess.PIPE, **ticked)
         os.close(waits)
         sent = b""
@@ -130,7 +130,7 @@ class Progress(TerminalCase):
         length."""
         os.mkfifo(self.folder / "slow.feed")
         waits, ticks = os.pipe()
-        child, screen = self.start("run slow.feed", stdout=subprocess.DEVNULL, env=loaded(TICKS_IN=waits), pass_fds=[waits])
+        child, screen = self.start("run slow.feed", stdout=subprocess.DEVNULL, env=loaded(self, TICKS_IN=waits), pass_fds=[waits])
         os.close(waits)
         with open(self.folder / "slow.feed", "w") as feed:  # the program has opened it for reading
             for second in range(1, 6):

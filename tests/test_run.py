@@ -4,8 +4,7 @@ import math
 import random
 
 from dev.models import calls
-from dev.models.table_model import MAX_FEEDS, dotted, route_text, run_text, table_text
-from dev.models.worked import SIX, WORKED, report
+from dev.models.table_model import MAX_FEEDS, dotted, report, route_text, run_text, table_text
 from dev.testing import is_unproved
 from tests.cases import TOO_MANY, ProgramCase, prefix_of, route, table
 from tests.schedules import in_turns
@@ -39,24 +38,6 @@ ENDS_OF_LINES = [
     ("\ufeffdump\n", 2, "1:1 fault E1\ntable 0\n"),
     ("dump\0\n", 2, "1:1 fault E1\ntable 0\n"),
 ]
-# Texts of feeds whose output is the same for every interleaving, their answers, and the table's rows.
-FEEDS = [
-    (
-        ["add 10.0.0.0/8 5 192.0.2.1\n", "add 10.0.0.0/8 5 192.0.2.2\n"],
-        [["added"], ["added"]],
-        [route_text("10.0.0.0/8", 1, 5), route_text("10.0.0.0/8", 2, 5, "192.0.2.2")],
-    ),
-    (
-        ["add 10.0.0.0/8 7 192.0.2.1\n", "add 10.0.0.0/8 5 192.0.2.2\n"],
-        [["added"], ["added"]],
-        [route_text("10.0.0.0/8", 2, 5, "192.0.2.2"), route_text("10.0.0.0/8", 1, 7)],
-    ),
-    (
-        ["version 2\nadd 10.0.0.0/8 1 192.0.2.1\npurge\n", "add 10.0.0.0/8 2 192.0.2.2\npurge\n"],
-        [[None, "added", "purged 1"], ["added", "fault E1"]],
-        [route_text("10.0.0.0/8", 2, 2, "192.0.2.2")],
-    ),
-]
 # The number of places of the lock's tree at each height.
 PLACES = [2**levels for levels in range(1, MAX_FEEDS.bit_length())]
 # Numbers that no option accepts; the greater two would wrap to 1.
@@ -67,6 +48,8 @@ class Runs(ProgramCase):
     # Catches a program that reports out of memory, or a usage error, for every file.
     # Catches a program that reads a directory as an empty file: `run .`.
     # Catches a command line that rejects `--levels 255` itself, instead of P2: `replay --levels 255 0`.
+    # Catches `run_feed` always returning M3, or `run_feeds` F3.
+    # Catches F3 for two feeds in batches of 2.
     def test_calls(self):
         self.assert_calls(calls.RUN_FILES, calls.RUNS)
 
@@ -74,14 +57,14 @@ class Runs(ProgramCase):
     # Catches F3 for one of the texts.
     # Catches `write_report` or `write_table` failing at once.
     def test_worked_runs(self):
-        for worked in WORKED:
-            self.assert_run(worked.name, [worked.text], worked.output, worked.status, ["--limit", str(worked.limit)])
+        self.assert_calls(calls.WORKED_FILES, calls.WORKED)
 
     # Catches F3 for batches of 700.
     def test_every_batch_size(self):
-        self.write({"six.feed": SIX.text})
+        (_, name), (_, output, _) = calls.WORKED[0]
+        self.write({name: calls.WORKED_FILES[name]})
         for batch in range(1, 1025):
-            self.assert_ended(self.yarib("run", "--batch", str(batch), "six.feed"), SIX.output, message=f"--batch {batch}")
+            self.assert_ended(self.yarib("run", "--batch", str(batch), name), output, message=f"--batch {batch}")
 
     # Catches `write_report` or `write_table` failing beyond some number of lines.
     def test_200_000_routes(self):
@@ -164,14 +147,6 @@ class Files(ProgramCase):
     def test_tables_of_each_size(self):
         for feeds, limit in zip(PLACES, itertools.cycle((1, 65_536, 65_537, 100_000, 999_999, 1_000_000))):
             self.assert_run(f"{feeds} feeds of {limit} routes", [""] * feeds, "table 0\n", words=["--limit", str(limit)])
-
-    # Catches `run_feed` always returning M3, or `run_feeds` F3.
-    # Catches F3 for two feeds in batches of 2.
-    def test_feeds_meet_in_one_table(self):
-        for number, (texts, answers, rows) in enumerate(FEEDS, 1):
-            wanted = report(1, answers[0]) + report(2, answers[1]) + table_text(rows)
-            for batch in ("1", "2", "1024"):
-                self.assert_run(f"pair {number} in batches of {batch}", texts, wanted, 2 if "fault" in wanted else 0, ["--batch", batch])
 
 
 class Options(ProgramCase):

@@ -1,5 +1,6 @@
 """`yarib table`: parts, counts and totals of tables."""
 import collections
+import functools
 import ipaddress
 import json
 import random
@@ -53,18 +54,6 @@ class Parts(ProgramCase):
                         for word in sorted({str(prefix), str(prefix).removesuffix("/32")}):
                             ended = self.yarib("table", option, word, *more, "--batch", choice.choice(("1", "256")), *names)
                             self.assert_ended(ended, part, message=word)
-
-    def test_empty_table(self):
-        self.assert_parts(0)
-
-    def test_single_routes(self):
-        self.assert_parts(1)
-
-    def test_12_routes(self):
-        self.assert_parts(12)
-
-    def test_300_routes(self):
-        self.assert_parts(300)
 
     def test_invalid_prefixes(self):
         for option in PARTS:
@@ -124,18 +113,6 @@ class Counts(ProgramCase):
                     found = [json.loads(line) for line in self.stdout("table", "--count", "--json", *words).splitlines()]
                     self.assertEqual(found, [counted(line, names) for line in lines.splitlines()])
 
-    def test_empty_table(self):
-        self.assert_counts(0)
-
-    def test_single_routes(self):
-        self.assert_counts(1)
-
-    def test_12_routes(self):
-        self.assert_counts(12)
-
-    def test_300_routes(self):
-        self.assert_counts(300)
-
     def test_max_feeds(self):
         prefixes = [prefix_of(10 << 24, length) for length in range(33)]
         wanted = counts_text([f"{prefix} feed {feed:03}" for feed in range(1, MAX_FEEDS + 1) for prefix in prefixes])
@@ -146,14 +123,12 @@ class Counts(ProgramCase):
         self.assertEqual(ended.returncode, 3, "two files of one name")
 
     def test_options(self):
-        self.assert_prints("table --count --json --names row.feed", (
-            '{"routes":1,"prefixes":1}\n{"feed":1,"name":"row","file":"row.feed","routes":1}\n{"length":8,"routes":1}\n'))
         self.assert_misused("lookup --count --address 10.0.0.1 row.feed", "--count")
         self.assert_misused("table --count --count row.feed", "--count")
 
 
 # Catches a total that counts prefixes, or the routes of the whole table: `Totals.test_300_routes`.
-# Catches a table without the line if no route is selected: `Totals.test_empty_table`.
+# Catches a table without the line if no route is selected: `Totals.test_0_routes`.
 class Totals(ProgramCase):
     """Random tables and parts of them with `--total`: what the same command prints without it, and then the number of these
     lines."""
@@ -167,17 +142,14 @@ class Totals(ProgramCase):
                 last = f'{{"total":{number}}}\n' if "--json" in more else f"total {number}\n"
                 self.assert_prints(["table", "--total", *part, *more, *names], rows + last)
 
-    def test_empty_table(self):
-        self.assert_totals(0)
-
-    def test_single_routes(self):
-        self.assert_totals(1)
-
-    def test_300_routes(self):
-        self.assert_totals(300)
-
     def test_options(self):
         for both in ("--count --total", "--total --json --count"):
             self.assert_refused(f"table {both} missing.feed", "only one of --count and --total may be given")
         self.assert_misused("lookup --total --address 10.0.0.1 row.feed", "--total")
         self.assert_misused("table --total --total row.feed", "--total")
+
+
+for case, compare, counts in ((Parts, Parts.assert_parts, (0, 1, 12, 300)), (Counts, Counts.assert_counts, (0, 1, 12, 300)),
+                              (Totals, Totals.assert_totals, (0, 1, 300))):
+    for count in counts:
+        setattr(case, f"test_{count}_routes", functools.partialmethod(compare, count))

@@ -202,6 +202,11 @@ def differences_text(old, new, by, names=({}, {})):
                    for first, last, was, now in differences(old, new, said))
 
 
+def report(feed, answers):
+    """The output of a run for a feed whose lines have these answers."""
+    return "".join(f"{feed}:{number} {answer}\n" for number, answer in enumerate(answers, 1) if answer)
+
+
 def ran(texts, refused, limit=65_536):
     """The lines of the reports that a run of these texts prints if these lines, by feed and number, are refused, and
     its table. Neither may be changed: the next call for the same texts returns them again."""

@@ -1,18 +1,15 @@
 """The form in which the statement pages print definitions, types and contracts: the words of the sources on fewer lines.
 
-- The words that only say how far a proof sees through a definition are left out, and so is `: Type 0` after a statement's
-  arguments: a definition without a type is a statement.
-- A definition with one case is printed as one equation, whose arguments have their types.
-- What is broken in the sources, but fits into a line, is joined. Short cases, fields and clauses share a line.
+- The words that only say how far a proof sees through a definition are left out.
+- What is broken in the sources, but fits into a line, is joined. Short cases and fields share a line.
+- Clauses are printed as the sources have them.
 - A comment of one line is printed after a field, a case of an `enum`, a definition or its head, if both fit into a line."""
 import re
 
 WIDTH = 120
 # Between two cases, fields or clauses on one line.
 GAP = ";  "
-SPACE = "  "
 KEYWORDS = re.compile(r"^(\s*)(?:(?:pub|abbrev|unfoldable) )+")
-VARIABLE = re.compile(r"[^\W\d][\w']*")
 LITERAL = re.compile(r'"(?:[^"\\]|\\.)*"')
 BRACED = re.compile(r"(pub(\(\w+\))? )?(struct|enum|trait|impl)\b")
 OPEN, CLOSED = "([{⟦", ")]}⟧"
@@ -107,13 +104,7 @@ def definition_lines(lines):
     if any(re.search(r"(^|\s)(--|let) ", line) for line in lines):
         return lines
     signature, *cases = [joined(block) for block in blocks_of(lines, 0)]
-    return [*broken(signature), *case_lines([shortest(*case.split(" = ", 1)) for case in cases])]
-
-
-def shortest(head, body):
-    """Returns the lines of an equation: broken after `=`, unless another place makes fewer lines."""
-    whole = broken(f"{head} = {body}")
-    return whole if len(whole) == 1 else min([*broken(f"{head} ="), *broken(body, "    ", "      ")], whole, key=len)
+    return [*broken(signature), *case_lines(list(map(broken, cases)))]
 
 
 def case_lines(cases):

@@ -6,8 +6,7 @@ import sys
 
 from dev.build.building import FIRST_BUILD
 from dev.crates import CRATES, TOP, all_crates
-from dev.models.calls import COMPARED, COMPARED_FILES, SHOWN, SHOWN_FILES, help_texts
-from dev.models.worked import REPLAYS, WORKED
+from dev.models.calls import COMPARED, COMPARED_FILES, REPLAYED, SHOWN, SHOWN_FILES, WORKED, WORKED_FILES, help_texts
 from dev.testing import call, needs_command
 from dev.tests.pages import PAGES, Rules, calls, commands, fences, files_of_repository, name_of, named_file, prose_of
 from dev.tests.test_sources import names_in_lists
@@ -69,9 +68,8 @@ def is_tested(words, output):
     if words[0] == "diff":
         return is_call(COMPARED, COMPARED_FILES, words, 1 if output else 0, output)
     if words[0] == "replay":
-        return any((str(levels), picks, text) == (words[2], " ".join(words[3:]), output)
-                   for _, levels, picks, text in REPLAYS)
-    return len(words) == 2 and any((worked.text, worked.output) == (named_file(words[1]).read_text(), output)
+        return is_call(REPLAYED, {}, words, 0, output)
+    return len(words) == 2 and any((WORKED_FILES[worked.words[-1]], worked.ending[1]) == (named_file(words[1]).read_text(), output)
                                    for worked in WORKED)
 
 
@@ -128,7 +126,7 @@ class Shown(Rules):
                          for piece in fences(page, "rust") if piece not in callers)
 
     def test_outputs_are_those_of_tests(self):
-        """The output of yarib or ./try, for the same words and files, is in crates/rt_app, dev/models/calls.py or worked.py."""
+        """The output of yarib or ./try, for the same words and files, is in crates/rt_app or dev/models/calls.txt."""
         self.assert_none(f"{name_of(page)}: {' '.join(words)}: neither a stored run nor a test has this output"
                          for page, words, output in calls() if not is_stored(words, output) and not is_tested(words, output))
 

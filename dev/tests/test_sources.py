@@ -36,14 +36,14 @@ def comments_of_rattle(file):
 
 
 def comments_of_python(file):
-    """Yields each comment that describes a mutant, and whether the line below it is a test's."""
+    """Yields each comment that describes a mutant, and whether the line below it is a test's, or a function's that is used."""
     text, comment = file.read_text(), []
     for line in text.splitlines():
         if line.lstrip().startswith("# "):
             comment.append(line.strip()[2:])
         elif not line.lstrip().startswith("@"):
             if any(one.startswith(MARK) for one in comment):
-                name = re.match(r"def (\w+)", line)
+                name = re.match(r"\s*def (\w+)", line)
                 yield " ".join(comment), AT_TEST.match(line) or name and len(re.findall(rf"\b{name[1]}\b", text)) > 1
             comment = []
 

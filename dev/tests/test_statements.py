@@ -113,8 +113,8 @@ class Pages(TestCase):
 
     # Catches a front page that says another number of lines than a page or a chapter has, or doesn't name a page.
     def test_numbers_of_lines(self):
-        for link in (" lines](docs/STATEMENT-RUN.md)", "](docs/STATEMENT-LOCK.md#the-running-lock)"):
-            with self.subTest(link):
+        for name, link in (("a page's", " lines](docs/STATEMENT-RUN.md)"), ("a chapter's", "](docs/STATEMENT-LOCK.md#the-running-lock)")):
+            with self.subTest(name):
                 restore = self.change("README.md", link, "9" + link)
                 self.assert_refused("README.md is not what dev/statements/statement --write would write")
                 restore()
