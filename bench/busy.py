@@ -14,10 +14,11 @@ import subprocess
 import sys
 import tempfile
 
-sys.path.insert(1, str(pathlib.Path(__file__).resolve().parents[1]))
-from dev import checks, figures
+sys.path[0] = str(pathlib.Path(__file__).resolve().parents[1])
+from bench import results
+from bench.programs import built, built_peer
+from bench.timing import measure
 from dev.models.inputs import changing_table, deal, write
-from dev.timed import measure
 
 FILES = (2, 4, 16, 64)
 BATCHES = (1, 256)
@@ -74,20 +75,20 @@ def rows(folder, programs, others, rounds, lines):
 
 
 def main():
-    words = figures.begin(figures.reader(__doc__, rounds=5, lines=160_000))
-    rounds, yarib = words.rounds, checks.built()
+    words = results.begin(results.reader(__doc__, rounds=5, lines=160_000))
+    rounds, yarib = words.rounds, built()
     with tempfile.TemporaryDirectory() as made:
         folder = pathlib.Path(made)
         table = changing_table(words.lines * 10 // 16)
         for files in (1, *FILES):
             (folder / str(files)).mkdir()
             write(folder / str(files), lambda: deal(table, files))
-        programs = (yarib, figures.built_peer(folder, "peer.rs"))
+        programs = (yarib, built_peer(folder, "peer.rs"))
         print("                      several files, wall clock   one file    plain     wall-clock ratios    processor ratio")
         print("busy   files batch    median minimum maximum   median   median to one  to plain     to one")
         measured = [found for others in (2 * os.cpu_count(), 0)
                     for found in rows(folder, programs, others, rounds, len(table))]
-    figures.keep("busy", rounds, measured)
+    results.keep("busy", rounds, measured)
 
 
 if __name__ == "__main__":

@@ -19,8 +19,8 @@ import sys
 import tempfile
 import time
 
-sys.path.insert(1, str(pathlib.Path(__file__).resolve().parents[1]))
-from dev import figures
+sys.path[0] = str(pathlib.Path(__file__).resolve().parents[1])
+from dev.crates import TOP
 from dev.models.inputs import real_prefixes, write_apart
 from dev.models.table_model import dotted, row
 
@@ -203,7 +203,7 @@ def main():
         with tempfile.TemporaryDirectory() as made:
             path, folder = pathlib.Path(made) / "input", pathlib.Path(made) / "feeds"
             write_apart(path, lines(words.routes))
-            script = figures.TOP / ("map" if name.endswith("map") else "convert") / name
+            script = TOP / ("map" if name.endswith("map") else "convert") / name
             call = [script, *([folder] if name.endswith("feeds") else [])]
             rounds = [measure(call, path) for _ in range(words.rounds)]
             seconds, processors, peak, together = map(min, zip(*rounds))

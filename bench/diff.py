@@ -9,16 +9,17 @@ processor time that `diff` takes beyond these two runs, also as a part of theirs
 In turn with these runs a program in plain Rust does the same (bench/diff_peer.rs). If the system's python3 has py-radix
 (Debian's python3-radix), it is loaded with both tables and looks up each boundary.
 """
-import sys
 import pathlib
 import random
 import resource
 import subprocess
+import sys
 import tempfile
 import time
 
-sys.path.insert(1, str(pathlib.Path(__file__).resolve().parents[1]))
-from dev import checks, figures
+sys.path[0] = str(pathlib.Path(__file__).resolve().parents[1])
+from bench import results
+from bench.programs import built, built_peer
 from dev.models.table_model import dotted
 
 # The number of prefixes of this length among a hundred.
@@ -97,15 +98,21 @@ def tell_radix(old, new):
 def timed(words):
     """The seconds of wall-clock and processor time of a call, and how it ended."""
     before, start = resource.getrusage(resource.RUSAGE_CHILDREN), time.monotonic()
-    ended = subprocess.run(words, capture_output=True, text=True, env=figures.environment(words[1]))
+    ended = subprocess.run(words, capture_output=True, text=True, env=results.environment(words[1]))
     clock, after = time.monotonic() - start, resource.getrusage(resource.RUSAGE_CHILDREN)
     processor = after.ru_utime + after.ru_stime - before.ru_utime - before.ru_stime
     return clock, processor, (ended.returncode, ended.stdout, ended.stderr)
 
 
+def check_same(what, found, wanted):
+    """Ends with an error unless both are the same."""
+    if found != wanted:
+        sys.exit(f"bench/diff.py: {what}: {str(found)[:1000]} in place of {str(wanted)[:1000]}")
+
+
 def main():
-    words = figures.begin(figures.reader(__doc__, prefixes=500_000, changes=1_000))
-    yarib = checks.built()
+    words = results.begin(results.reader(__doc__, prefixes=500_000, changes=1_000))
+    yarib = built()
     with tempfile.TemporaryDirectory() as made:
         folder = pathlib.Path(made)
         old, new = folder / "old.feed", folder / "new.feed"
@@ -113,18 +120,18 @@ def main():
         write(old, table)
         write(new, changed(table, words.changes))
         limit = ["--limit", "1000000"]
-        least, plain, of_plain = {}, figures.built_peer(folder, "diff_peer.rs"), []
+        least, plain, of_plain = {}, built_peer(folder, "diff_peer.rs"), []
         for _ in range(ROUNDS):
             calls = {name: timed([yarib, "lookup", *limit, "--address", "0.0.0.0", name]) for name in (old, new)}
             calls["diff"] = timed([yarib, "diff", *limit, old, "--", new])
             _, _, (status, wanted, err) = timed([plain, old, new])
-            checks.expect("the plain program's status", status, 0)
-            checks.expect("the ranges", calls["diff"][2], (1 if wanted else 0, wanted, ""))
+            check_same("the plain program's status", status, 0)
+            check_same("the ranges", calls["diff"][2], (1 if wanted else 0, wanted, ""))
             of_plain.append([int(word) / 1e9 for word in err.split()])
             for name, (clock, processor, _) in calls.items():
                 best = least.setdefault(name, [clock, processor])
                 least[name] = [min(best[0], clock), min(best[1], processor)]
-        checks.expect("a table and itself", timed([yarib, "diff", *limit, new, "--", new])[2], (0, "", ""))
+        check_same("a table and itself", timed([yarib, "diff", *limit, new, "--", new])[2], (0, "", ""))
         clock, processor = (least[old][place] + least[new][place] for place in range(2))
         whole, beyond = least["diff"][0], least["diff"][1] - processor
         print(f"clock     loading {clock:.3f} s, diff {whole:.3f} s: {whole / clock:.2f}")
@@ -133,7 +140,6 @@ def main():
         print(f"plain     loading {loading:.3f} s, comparing {beyond:.3f} s: {beyond / loading:.2f}")
         tell_radix(old, new)
         print(f"{len(wanted.splitlines())} ranges")
-    checks.end()
 
 
 if __name__ == "__main__":

@@ -1,20 +1,20 @@
 #!/usr/bin/env python3
 """Draws what the benches measured, out of bench/figures/.
 
-Usage: bench/draw_figures.py [--check]. Writes time_by_prefixes.svg, time_by_feeds.svg, time_beside_others.svg,
-time_by_processors.svg, lock_by_threads.svg and trie_by_size.svg into docs/pictures/, or with --check compares them with
-what it would write.
-Each axis begins at zero, but for the lower ones, which have one place for each number that was measured.
+It writes time_by_prefixes.svg, time_by_feeds.svg, time_beside_others.svg, time_by_processors.svg, lock_by_threads.svg and
+trie_by_size.svg into docs/pictures/. Each axis begins at zero, but for the lower ones, which have one place for each number that was measured.
 """
-import pathlib
+import argparse
 import html
+import pathlib
 import statistics
 import sys
 
-sys.path.insert(1, str(pathlib.Path(__file__).resolve().parents[1]))
-from dev import figures
+sys.path[0] = str(pathlib.Path(__file__).resolve().parents[1])
+from bench import results
+from dev import crates
 
-FOLDER = figures.TOP / "docs/pictures"
+FOLDER = crates.TOP / "docs/pictures"
 INK, QUIET, BLUE, GREEN, ORANGE = "#222", "#777", "#1f5fa8", "#1a7f37", "#b3541e"
 # The width of a panel, by the number of panels in a figure.
 WIDTHS = {1: 560, 2: 300, 3: 260, 4: 230}
@@ -115,7 +115,7 @@ def charts(title, unit, below, kinds, panels, kept):
         picture.path([(x, TOP + HEIGHT + 62), (x + 28, TOP + HEIGHT + 62)], colour, dash)
         picture.text(x + 36, TOP + HEIGHT + 66, name, "start", 12)
         x += 60 + 7 * len(name)
-    said = f"{kept['machine']}{figures.MEMORY[kept.get('memory')]}; {kept['made']}"
+    said = f"{kept['machine']}{results.MEMORY[kept.get('memory')]}; {kept['made']}"
     picture.text(LEFT, TOP + HEIGHT + 90, said, "start", 11, QUIET)
     return picture
 
@@ -134,13 +134,13 @@ def program_lines(rows, number, measure):
 
 
 def time_by_prefixes():
-    kept = figures.kept("sizes")
+    kept = results.kept("sizes")
     panels = [("wall-clock time", program_lines(kept["rows"], "prefixes", "clock"))]
     return charts("One file, a table that changes", "µs a line", "prefixes", PROGRAM, panels, kept)
 
 
 def time_by_feeds():
-    kept = figures.kept("batches")
+    kept = results.kept("batches")
     on = sorted({row["on"] for row in kept["rows"]})
     panels = [
         (f"{some} processor{'s' if some > 1 else ''}",
@@ -152,7 +152,7 @@ def time_by_feeds():
 
 
 def time_beside_others():
-    kept = figures.kept("busy")
+    kept = results.kept("busy")
     kinds = [("plain Rust", ORANGE, True), ("yarib, batch 1", QUIET, False), ("batch 256", BLUE, False)]
     panels = [(title, busy_lines([row for row in kept["rows"] if bool(row["others"]) == busy]))
               for title, busy in BESIDE]
@@ -176,7 +176,7 @@ def busy_lines(rows):
 
 
 def time_by_processors():
-    kept = figures.kept("queries")
+    kept = results.kept("queries")
     kinds = [("table --best", BLUE, False), ("lookup", GREEN, False), ("diff without a peer", ORANGE, False),
              ("diff of two tables", QUIET, False)]
     lines = [[(row["on"], row["clock"][0]) for row in kept["rows"] if row["query"] == query]
@@ -186,7 +186,7 @@ def time_by_processors():
 
 
 def lock_by_threads():
-    kept = figures.kept("lock")
+    kept = results.kept("lock")
     rows = [row for row in kept["rows"] if row["levels"] == 6]
     kinds = [("yarib's lock", BLUE, False), ("the same in C", ORANGE, True), ("std's mutex", QUIET, False)]
     panels = [
@@ -197,7 +197,7 @@ def lock_by_threads():
 
 
 def trie_by_size():
-    kept = figures.kept("trie")
+    kept = results.kept("trie")
     kinds = [("yarib's trie", BLUE, False), ("plain Rust", ORANGE, True)]
     calls = (("insert", "insertion"), ("longest", "longest match"), ("together", "64 longest matches"),
              ("remove", "removal"))
@@ -210,10 +210,12 @@ def trie_by_size():
 
 
 def main():
-    stale = []
+    parser = argparse.ArgumentParser(description=__doc__, formatter_class=argparse.RawDescriptionHelpFormatter)
+    parser.add_argument("--check", action="store_true", help="write nothing: compare the pictures with what would be written")
+    is_check, stale = parser.parse_args().check, []
     for draw in (time_by_prefixes, time_by_feeds, time_beside_others, time_by_processors, lock_by_threads, trie_by_size):
         path, drawn = FOLDER / f"{draw.__name__}.svg", draw().svg()
-        if "--check" not in sys.argv:
+        if not is_check:
             path.write_text(drawn)
         elif not path.exists() or path.read_text() != drawn:
             stale.append(path.name)
@@ -221,4 +223,5 @@ def main():
         sys.exit(f"bench/draw_figures.py: out of date, run bench/draw_figures.py: {', '.join(stale)}")
 
 
-main()
+if __name__ == "__main__":
+    main()

@@ -6,14 +6,15 @@ and a table of 70,000 prefixes with the lengths of a real one. Prints each part'
 the functions that the compiler kept: an inlined function counts for its caller, as reading ahead does for executing
 commands.
 """
-import sys
 import pathlib
 import re
 import subprocess
+import sys
 import tempfile
 
-sys.path.insert(1, str(pathlib.Path(__file__).resolve().parents[1]))
-from dev import checks, figures
+sys.path[0] = str(pathlib.Path(__file__).resolve().parents[1])
+from bench import results
+from bench.programs import built
 from dev.models.inputs import one_prefix, real_table
 
 # The first pattern found in a function's name determines its part.
@@ -47,8 +48,8 @@ def counted(program, lines, folder):
 
 
 def main():
-    figures.asked = figures.reader(__doc__).parse_args()
-    yarib = checks.built()
+    results.asked = results.reader(__doc__).parse_args()
+    yarib = built()
     with tempfile.TemporaryDirectory() as made:
         one, real = (
             counted(yarib, lines, pathlib.Path(made))
@@ -58,7 +59,7 @@ def main():
     rows.append({"part": "all", "one_prefix": sum(one.values()), "real_lengths": sum(real.values())})
     for row in rows:
         print(f"{row['part']:50} {row['one_prefix']:7} {row['real_lengths']:7}")
-    figures.keep("instructions", 1, rows)
+    results.keep("instructions", 1, rows)
 
 
 if __name__ == "__main__":

@@ -19,13 +19,15 @@ import subprocess
 import sys
 import tempfile
 
-sys.path.insert(1, str(pathlib.Path(__file__).resolve().parents[1]))
-from dev import checks, figures
+sys.path[0] = str(pathlib.Path(__file__).resolve().parents[1])
+from bench import results
+from bench.others import built_lpm, call_each, drawn, each, has_patricia, patricia_rows, printed, radix_rows, write_input
+from bench.programs import built_benches, told
+from dev.crates import TOP
 from dev.models.table_model import dotted
-from others import built_lpm, call_each, drawn, each, has_patricia, patricia_rows, printed, radix_rows, write_input
 
 ASKED = 1 << 17
-BINDINGS = checks.TOP / "bindings"
+BINDINGS = TOP / "bindings"
 WHO = ("Rattle", "C", "Rust", "Python", "py-radix", "Net::Patricia", "rte_lpm")
 CALLS = ("apply", "add_text", "apply_each", "apply_journaled", "look_up_1", "look_up_text", "look_up_256", "look_up_4096",
          "look_up_array", "contains", "forward", "forwarding_1", "forwarding_text", "forwarding_256", "forwarding_4096",
@@ -60,30 +62,25 @@ def python_rows(yarib, pairs, asked):
 
 def rattle_rows(benches, prefixes):
     """The rows of the same calls in Rattle, by the program bench/benches, which draws the same."""
-    ended = subprocess.run([benches, "fib", str(prefixes), str(ASKED)], capture_output=True, text=True)
-    if ended.returncode != 0:
-        sys.exit(f"bench/library.py: bench/benches ended with status {ended.returncode}\n{ended.stderr}")
-    words = ended.stderr.split()
-    told = {name: int(value) for name, value in zip(words[::2], words[1::2])}
-    yield "apply_journaled", told["load"] / prefixes
-    yield "forward", told["new"] / prefixes
+    said = told([benches, "fib", prefixes, ASKED])
+    yield "apply_journaled", said["load"] / prefixes
+    yield "forward", said["new"] / prefixes
     for which, call in (("book_look_up", "look_up_1"), ("book_look_up_each", "look_up_256"),
-                        ("look_up", "forwarding_1"),
-                        ("look_up_each", "forwarding_256")):
-        yield call, told[f"random_{which}"] / ASKED
+                        ("look_up", "forwarding_1"), ("look_up_each", "forwarding_256")):
+        yield call, said[f"random_{which}"] / ASKED
 
 
 def built(folder):
     """The programs of one round, by name: those in C and Rust, and in C over rte_lpm if it is installed."""
     subprocess.run([BINDINGS / "build"], check=True)
     library, program = BINDINGS / "out/libyarib.a", ["gcc", "-O2", "-o"]
-    subprocess.run([*program, folder / "c", "-I", BINDINGS / "c", checks.TOP / "bench/library.c", library], check=True)
+    subprocess.run([*program, folder / "c", "-I", BINDINGS / "c", TOP / "bench/library.c", library], check=True)
     environment = os.environ | {"YARIB_LIB": str(BINDINGS / "out"), "CARGO_TARGET_DIR": str(folder / "target")}
     how = {"check": True, "cwd": BINDINGS / "rust", "env": environment}
     subprocess.run(["cargo", "build", "--release", "--offline", "--quiet"], **how)
     crate = f"yarib={folder / 'target/release/libyarib.rlib'}"
     words = ["rustc", "--edition", "2021", "-O", "--extern", crate, "-L", BINDINGS / "out", "-o", folder / "rust"]
-    subprocess.run([*words, checks.TOP / "bench/library.rs"], check=True)
+    subprocess.run([*words, TOP / "bench/library.rs"], check=True)
     found = {"C": [folder / "c", folder / "input"], "Rust": [folder / "rust", folder / "input"]}
     if lpm := built_lpm(folder):
         found["rte_lpm"] = [lpm, folder / "input"]
@@ -108,14 +105,14 @@ def measured(folder, programs, benches, pairs, asked):
 
 
 def main():
-    words = figures.begin(figures.reader(__doc__, rounds=3, prefixes=500_000))
+    words = results.begin(results.reader(__doc__, rounds=3, prefixes=500_000))
     os.environ["YARIB_LIBRARY"] = str(BINDINGS / "out/libyarib.so.0")
     pairs, asked = drawn(words.prefixes, ASKED)
     with tempfile.TemporaryDirectory() as name:
         folder = pathlib.Path(name)
         write_input(folder, pairs, asked)
-        times_it = (checks.TOP / "bench/benches/src/fib.rt.in").exists()
-        programs, benches = built(folder), checks.built_benches("fib", "2000") if times_it else None
+        times_it = (TOP / "bench/benches/src/fib.rt.in").exists()
+        programs, benches = built(folder), built_benches("fib", "2000") if times_it else None
         rounds = [measured(folder, programs, benches, pairs, asked) for _ in range(words.rounds)]
     least = {key: min(one[key] for one in rounds) for key in rounds[0]}
     absent = [who for who in WHO if all(key[0] != who for key in least)]
@@ -125,7 +122,7 @@ def main():
     print(f"{'':16}" + "".join(f"{who:>14}" for who in WHO))
     for row in rows:
         print(f"{row['call']:16}" + "".join(f"{row[who]:14.0f}" if who in row else " " * 14 for who in WHO), flush=True)
-    figures.keep("library", words.rounds, rows)
+    results.keep("library", words.rounds, rows)
 
 
 if __name__ == "__main__":

@@ -12,9 +12,11 @@ import subprocess
 import sys
 import tempfile
 
-sys.path.insert(1, str(pathlib.Path(__file__).resolve().parents[1]))
-from dev import checks, figures
-from dev.timed import taken
+sys.path[0] = str(pathlib.Path(__file__).resolve().parents[1])
+from bench import results
+from bench.programs import built_benches
+from bench.timing import taken
+from dev.testing import compiled
 
 ALONE = [(levels, 1) for levels in range(1, 7)]
 TOGETHER = [(1, 2), *((levels, threads) for levels in range(2, 7) for threads in (2, 4)), (6, 16), (6, 64)]
@@ -22,7 +24,7 @@ TOGETHER = [(1, 2), *((levels, threads) for levels in range(2, 7) for threads in
 
 def build(folder):
     """The commands of both programs; the one in C is built in the directory."""
-    return [checks.built_benches("lock", "3000"), "lock"], [checks.compiled(folder, "bench/lock.c", "-pthread")]
+    return [built_benches("lock", "3000"), "lock"], [compiled(folder, "bench/lock.c", "-pthread")]
 
 
 def timed(program, passages, levels, threads):
@@ -47,7 +49,7 @@ def times(rounds, passages, programs, levels, threads):
 
 
 def main():
-    words = figures.begin(figures.reader(__doc__, rounds=9, passages=200_000))
+    words = results.begin(results.reader(__doc__, rounds=9, passages=200_000))
     rounds, passages = words.rounds, words.passages
     rows = []
     with tempfile.TemporaryDirectory() as folder:
@@ -62,7 +64,7 @@ def main():
             print(row, flush=True)
             rows.append({"levels": levels, "threads": threads, "clock": rounded(clock),
                          "processors": rounded(processors)})
-    figures.keep("lock", rounds, rows)
+    results.keep("lock", rounds, rows)
 
 
 def rounded(times):

@@ -6,7 +6,7 @@ import subprocess
 import sys
 import time
 
-from dev import checks
+from dev.crates import TOP
 from dev.models.table_model import dotted
 
 # The lengths that the benchmarks in Rattle draw: a length by a number below 1000.
@@ -101,6 +101,6 @@ def built_lpm(folder):
         return None
     flags = subprocess.run(["pkg-config", "--cflags", "--libs", "libdpdk"], check=True, capture_output=True,
                            text=True).stdout
-    source = checks.TOP / "bench/library_lpm.c"
+    source = TOP / "bench/library_lpm.c"
     subprocess.run(["gcc", "-O2", "-o", folder / "lpm", "-march=native", source, *flags.split()], check=True)
     return folder / "lpm"

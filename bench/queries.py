@@ -15,11 +15,12 @@ import subprocess
 import sys
 import tempfile
 
-sys.path.insert(1, str(pathlib.Path(__file__).resolve().parents[1]))
-from dev import checks, figures
+sys.path[0] = str(pathlib.Path(__file__).resolve().parents[1])
+from bench import results
+from bench.programs import built
+from bench.timing import measure
 from dev.models.inputs import real_prefixes, write_apart
 from dev.models.table_model import dotted
-from dev.timed import measure
 
 PREFIXES, ADDRESSES = 1_050_000, 300_000
 LIMIT = ["--limit", "1000000"]
@@ -61,7 +62,7 @@ def run(program, words, processors):
     os.sched_setaffinity(0, sorted(allowed)[:processors])
     try:
         # `diff` ends with status 1 if the tables differ
-        return measure(["sh", "-c", '"$@"; test $? -le 1', "sh", program, *words], True, env=figures.environment(words[0]))
+        return measure(["sh", "-c", '"$@"; test $? -le 1', "sh", program, *words], True, env=results.environment(words[0]))
     finally:
         os.sched_setaffinity(0, allowed)
 
@@ -81,11 +82,11 @@ def row_of(name, words, programs, on, rounds):
 
 
 def main():
-    reader = figures.reader(__doc__, tables=8, rounds=3)
+    reader = results.reader(__doc__, tables=8, rounds=3)
     reader.add_argument("--beside", help="another program, which runs in turn")
     reader.add_argument("--on", help="numbers of processors, as 1,4; default: all up to the machine's")
-    words = figures.begin(reader)
-    programs = [checks.built(), *([words.beside] if words.beside else [])]
+    words = results.begin(reader)
+    programs = [built(), *([words.beside] if words.beside else [])]
     most = len(os.sched_getaffinity(0))
     on = [int(number) for number in words.on.split(",")] if words.on else range(1, most + 1)
     rows = []
@@ -98,7 +99,7 @@ def main():
                 outputs |= digests
             if len(outputs) != 1:
                 sys.exit(f"{name}: the output depends on the number of processors")
-    figures.keep("queries", words.rounds, rows)
+    results.keep("queries", words.rounds, rows)
 
 
 if __name__ == "__main__":

@@ -14,11 +14,12 @@ import random
 import sys
 import tempfile
 
-sys.path.insert(1, str(pathlib.Path(__file__).resolve().parents[1]))
-from dev import checks, figures
+sys.path[0] = str(pathlib.Path(__file__).resolve().parents[1])
+from bench import results
+from bench.programs import built, built_peer
+from bench.timing import measure, measured, shown
 from dev.models.inputs import add, count_lines, real_prefixes, write
 from dev.models.table_model import dotted
-from dev.timed import measure, measured, shown
 
 FILES = (1, 4, 16, 64)
 
@@ -79,17 +80,17 @@ def compare_files(folder, count, batches, on_all, programs, rounds):
 
 
 def main():
-    reader = figures.reader(__doc__, rounds=3, prefixes=100_000)
+    reader = results.reader(__doc__, rounds=3, prefixes=100_000)
     reader.add_argument("--batches", action="store_true")
-    words = figures.begin(reader)
-    rounds, yarib = words.rounds, checks.built()
+    words = results.begin(reader)
+    rounds, yarib = words.rounds, built()
     with tempfile.TemporaryDirectory() as made:
         folder = pathlib.Path(made)
-        programs = yarib, figures.built_peer(folder, "peer.rs")
+        programs = yarib, built_peer(folder, "peer.rs")
         if words.batches:
-            figures.keep("batches", rounds, compare_files(folder, 20_000, (1, 16, 256), (1, 16, 256), programs, rounds))
+            results.keep("batches", rounds, compare_files(folder, 20_000, (1, 16, 256), (1, 16, 256), programs, rounds))
         else:
-            figures.keep("route_server", rounds,
+            results.keep("route_server", rounds,
                          compare_files(folder, words.prefixes, (256,), (1, 256), programs, rounds))
 
 

@@ -11,10 +11,11 @@ import pathlib
 import sys
 import tempfile
 
-sys.path.insert(1, str(pathlib.Path(__file__).resolve().parents[1]))
-from dev import checks, figures
+sys.path[0] = str(pathlib.Path(__file__).resolve().parents[1])
+from bench import results
+from bench.programs import built, built_peer
+from bench.timing import measure, measured, shown
 from dev.models.inputs import changing_table, count_lines, deal, one_prefix, real_table, write
-from dev.timed import measure, measured, shown
 
 SIZES = (10_000, 30_000, 100_000, 300_000, 1_000_000)
 
@@ -48,10 +49,10 @@ def compare_inputs(folder, inputs, programs, rounds):
 
 
 def main():
-    reader = figures.reader(__doc__, rounds=5, prefixes=500_000)
+    reader = results.reader(__doc__, rounds=5, prefixes=500_000)
     reader.add_argument("--sizes", action="store_true")
-    words = figures.begin(reader)
-    count, yarib = words.prefixes, checks.built()
+    words = results.begin(reader)
+    count, yarib = words.prefixes, built()
     inputs = [
         ("one prefix, then look-ups of it", lambda: [one_prefix(200_000)]),
         ("a table in random order", lambda: [real_table(count, False)]),
@@ -70,8 +71,8 @@ def main():
         inputs = [(name, {"input": name}, files, [1, 256]) for name, files in inputs]
     with tempfile.TemporaryDirectory() as made:
         folder = pathlib.Path(made)
-        rows = compare_inputs(folder, inputs, (yarib, figures.built_peer(folder, "peer.rs")), words.rounds)
-    figures.keep("sizes" if words.sizes else "run", words.rounds, rows)
+        rows = compare_inputs(folder, inputs, (yarib, built_peer(folder, "peer.rs")), words.rounds)
+    results.keep("sizes" if words.sizes else "run", words.rounds, rows)
 
 
 if __name__ == "__main__":

@@ -7,15 +7,16 @@ processor time (user and system), and their ratios to the mutex. For one thread 
 only slow it down; for several they are the median, since single rounds differ much. The last rows are for two
 processors only.
 """
-import pathlib
 import os
+import pathlib
 import statistics
 import subprocess
 import sys
 
-sys.path.insert(1, str(pathlib.Path(__file__).resolve().parents[1]))
-from dev import checks, figures
-from dev.timed import taken
+sys.path[0] = str(pathlib.Path(__file__).resolve().parents[1])
+from bench import results
+from bench.programs import built_benches
+from bench.timing import taken
 
 CASES = [(threads, batch) for threads in (1, 4, 16, 64) for batch in (1, 16, 256)]
 ON_TWO = [(threads, batch) for threads in (2, 64) for batch in (1, 256)]
@@ -48,15 +49,15 @@ def compare(program, rounds, commands, threads, batch, processors):
 
 
 def main():
-    words = figures.begin(figures.reader(__doc__, rounds=9, commands=200_000))
+    words = results.begin(results.reader(__doc__, rounds=9, commands=200_000))
     rounds, commands = words.rounds, words.commands
-    program = checks.built_benches("shared", "20000")
+    program = built_benches("shared", "20000")
     every = os.sched_getaffinity(0)
     two = set(sorted(every)[:2])
     print("                            wall clock                processor time")
     print("processors threads batch     table    mutex  ratio     table    mutex  ratio")
     cases = [(*case, every) for case in CASES] + [(*case, two) for case in ON_TWO]
-    figures.keep("shared", rounds, [compare(program, rounds, commands, *case) for case in cases])
+    results.keep("shared", rounds, [compare(program, rounds, commands, *case) for case in cases])
 
 
 if __name__ == "__main__":

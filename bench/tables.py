@@ -1,19 +1,18 @@
 #!/usr/bin/env python3
-"""Makes the tables of docs/PERFORMANCE.md from the results that the benchmarks kept in bench/figures/.
-
-  bench/tables.py --write   # writes them into the page, each between its two marks
-  bench/tables.py --check   # ends with status 1 if a table differs.
+"""Makes the tables of docs/PERFORMANCE.md from the results that the benchmarks kept in bench/figures/,
+and ends with status 1 if a table of the page differs.
 
 A table is between `<!-- figures: NAME -->` and `<!-- end -->`, and bench/figures/NAME.json has the results of its
 benchmark. For a long table the page shows the rows at both ends and some between, the worst among them, and the ratios
 of processor times. Results with nothing to compare with are listed below the table."""
+import argparse
 import pathlib
 import re
 import sys
 import textwrap
 
-sys.path.insert(1, str(pathlib.Path(__file__).resolve().parents[1]))
-from dev import figures
+sys.path[0] = str(pathlib.Path(__file__).resolve().parents[1])
+from bench import results
 from dev.crates import TOP
 
 PAGE = TOP / "docs/PERFORMANCE.md"
@@ -161,10 +160,10 @@ SHOWN = {
 
 def table(name, head):
     """The table of this name, with the day below it, and the machine if the page's head names another."""
-    if not (figures.FOLDER / f"{name}.json").exists():
+    if not (results.FOLDER / f"{name}.json").exists():
         return "Not measured yet.\n"
     heads, cells = TABLES[name]
-    kept = figures.kept(name)
+    kept = results.kept(name)
     has = SHOWN.get(name, lambda row: True)
     rows = [heads] + [cells(row) for row in kept["rows"] if has(row)]
     lines = ["| " + " | ".join(str(cell) for cell in row) + " |" for row in rows]
@@ -172,7 +171,7 @@ def table(name, head):
     machine = "" if kept["machine"] in " ".join(head.split()) else f"{kept['machine']}; "
     rounds = f"{kept['rounds']} run{'s' if kept['rounds'] > 1 else ''}"
     below = BELOW.get(name, lambda rows: "")(kept["rows"])
-    said = f"{below}{machine}{rounds}{figures.MEMORY[kept.get('memory')]}; {kept['made']}{stolen(kept)}."
+    said = f"{below}{machine}{rounds}{results.MEMORY[kept.get('memory')]}; {kept['made']}{stolen(kept)}."
     return "\n".join(lines) + f"\n\n{textwrap.fill(said, 120)}\n"
 
 
@@ -184,15 +183,20 @@ def stolen(kept):
 
 
 def main():
-    page = PAGE.read_text()
+    parser = argparse.ArgumentParser(description=__doc__, formatter_class=argparse.RawDescriptionHelpFormatter)
+    either = parser.add_mutually_exclusive_group()
+    either.add_argument("--write", action="store_true", help="write the tables into the page, each between its two marks")
+    either.add_argument("--check", action="store_true", help="only compare the tables; this is the default")
+    is_writing, page = parser.parse_args().write, PAGE.read_text()
     head = page.partition("\n## ")[0]
     written = MARKED.sub(lambda found: found[1] + table(found[2], head) + found[3], page)
     if not MARKED.search(page):
         sys.exit("bench/tables.py: docs/PERFORMANCE.md has no table between marks")
-    if "--write" in sys.argv:
+    if is_writing:
         PAGE.write_text(written)
     elif written != page:
         sys.exit("bench/tables.py: docs/PERFORMANCE.md differs from bench/figures/: run bench/tables.py --write")
 
 
-main()
+if __name__ == "__main__":
+    main()

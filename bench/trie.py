@@ -9,27 +9,18 @@ walk that removes one of a thousand, for each prefix. Then it prints the trie's 
 each prefix the plain one allocated.
 """
 import pathlib
-import subprocess
 import sys
 import tempfile
 
-sys.path.insert(1, str(pathlib.Path(__file__).resolve().parents[1]))
-from dev import checks, figures
-
-
-def timed(program, prefixes):
-    """The figures that a program prints, by name."""
-    run = subprocess.run([*program, str(prefixes)], capture_output=True, text=True)
-    if run.returncode != 0:
-        sys.exit(f"bench/trie.py: {program} ended with status {run.returncode}")
-    words = run.stderr.split()
-    return {name: int(value) for name, value in zip(words[::2], words[1::2])}
+sys.path[0] = str(pathlib.Path(__file__).resolve().parents[1])
+from bench import results
+from bench.programs import built_benches, built_peer, told
 
 
 def compare(programs, prefixes, rounds):
     """Runs both in turn with this number of prefixes, prints a row for each call with its minimum times, and returns
     the rows."""
-    runs = [[timed(program, prefixes) for program in programs] for _ in range(rounds)]
+    runs = [[told([*program, prefixes]) for program in programs] for _ in range(rounds)]
     proved, plain = runs[0]
     for agreed in ("prefixes", "found", "kept", "left"):
         if proved[agreed] != plain[agreed]:
@@ -57,17 +48,17 @@ def compare(programs, prefixes, rounds):
 
 
 def main():
-    reader = figures.reader(__doc__, rounds=5)
+    reader = results.reader(__doc__, rounds=5)
     reader.add_argument("prefixes", nargs="*", type=int, default=[3_000, 30_000, 500_000])
-    words = figures.begin(reader)
+    words = results.begin(reader)
     rounds, rows = words.rounds, []
     with tempfile.TemporaryDirectory() as folder:
-        peer = figures.built_peer(pathlib.Path(folder), "trie_peer.rs")
-        programs = [checks.built_benches("trie", "2000"), "trie"], [peer]
+        peer = built_peer(pathlib.Path(folder), "trie_peer.rs")
+        programs = [built_benches("trie", "2000"), "trie"], [peer]
         print(f"{'prefixes':8} {'call':8} {'clock':>8} {'plain':>8} {'ratio':>6} {'cpu':>8} {'plain':>8} {'ratio':>6}")
         for prefixes in words.prefixes:
             rows += compare(programs, prefixes, rounds * max(1, 100_000 // prefixes))
-    figures.keep("trie", rounds, rows)
+    results.keep("trie", rounds, rows)
 
 
 if __name__ == "__main__":

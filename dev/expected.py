@@ -96,7 +96,7 @@ def update(listed):
     """Writes tests/expected.txt: what the last runs recorded, without tests that are no more, and the mutants and changes
     of definitions that are listed. Returns the tests of which neither a record nor a line is known."""
     tests, _ = read()
-    exist = {name for module in runner.modules() for name in runner.methods(module)}
+    exist = {name for tests in runner.names().values() for name in tests}
     for file in RECORDS.glob("*.json"):
         record = json.loads(file.read_text())
         name, parts = record["test"], set(record["parts"])

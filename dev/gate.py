@@ -337,6 +337,9 @@ class Gate:
             if self.failing:
                 self.say("test: these FAILED:\n" + "".join(self.failing))
             status = stopped.args[0]
+        except SystemExit as ended:  # by a signal
+            status = ended.code
+            raise
         finally:
             self.stop_all()
             if (self.notes / "begun").exists():
@@ -362,11 +365,6 @@ def clean():
         shutil.rmtree(folder) if folder.is_dir() else folder.unlink()
 
 
-def names():
-    """Returns the names of all tests, by module."""
-    return {module: list(runner.methods(module)) for module in runner.modules()}
-
-
 def run_only(patterns):
     """Runs the tests whose names, or whose subTests' names, match one of these patterns. It judges the proved program if it is
     built, and else the unproved one."""
@@ -377,7 +375,7 @@ def run_only(patterns):
         parts = known.get(test, (None, ()))[1]
         return any(fnmatch.fnmatchcase(name, form) for name in (test, *(f"{test} {part}" for part in parts)) for form in forms)
 
-    chosen = {module: list(filter(matches, tests)) for module, tests in names().items()}
+    chosen = {module: list(filter(matches, tests)) for module, tests in runner.names().items()}
     if not any(chosen.values()):
         sys.exit(f"test: no test matches {' or '.join(patterns)}; ./test --list prints their names")
     ready = subprocess.run([TOP / "dev/build/build", "--ready", "rt_app"], stdout=subprocess.PIPE, stderr=subprocess.DEVNULL, text=True)
@@ -423,7 +421,7 @@ def main():
     what.add_argument("--expected", action="store_true", help="writes tests/expected.txt by what the last runs recorded")
     args = parser.parse_args()
     if args.list:
-        return print("\n".join(name for tests in names().values() for name in tests))
+        return print("\n".join(name for tests in runner.names().values() for name in tests))
     if args.expected:
         return update_expected()
     if args.only:

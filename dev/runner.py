@@ -4,19 +4,22 @@ Tests are `unittest` test cases in the files test_*.py of FOLDERS. A test's name
 tests.test_run.Files.test_order, and a subTest's name follows it in brackets. `python3 -m dev.runner MODULE` runs one module,
 as ./test does."""
 import argparse
+import ast
 import functools
 import importlib
 import io
 import json
 import pathlib
+import subprocess
 import sys
+import tempfile
 import time
 import traceback
 import unittest
 
 from dev.crates import TOP
 
-FOLDERS = ("tests", "dev/tests", "convert/tests", "map/tests", "bindings/tests")
+FOLDERS = ("tests", "dev/tests", "convert/tests", "map/tests", "bindings/tests", "bindings/python/tests")
 
 
 def modules():
@@ -38,14 +41,48 @@ def methods(module):
 
 
 @functools.cache
+def source_of(module):
+    """Returns a module's syntax tree."""
+    return ast.parse((TOP / (module.replace(".", "/") + ".py")).read_text())
+
+
 def about(module):
     """Returns what ./test has to know of a module, by the constants that dev/testing.py describes: what it needs, whether it
-    needs the proved program, and whether it runs alone."""
-    try:
-        loaded = importlib.import_module(module)
-    except Exception:  # the module's own run reports it
-        return frozenset(), False, False
-    return frozenset(getattr(loaded, "NEEDS", ())), getattr(loaded, "PROVED", False), getattr(loaded, "ALONE", False)
+    needs the proved program, and whether it runs alone. The module isn't loaded, since that may need a library."""
+    constants = {}
+    for line in source_of(module).body:
+        if isinstance(line, ast.Assign):
+            [target] = line.targets
+            pairs = zip(target.elts, getattr(line.value, "elts", ())) if isinstance(target, ast.Tuple) else [(target, line.value)]
+            constants |= {name.id: value for name, value in pairs if isinstance(name, ast.Name)}
+    needs, proved, alone = (ast.literal_eval(constants[name]) if name in constants else without
+                            for name, without in (("NEEDS", set()), ("PROVED", False), ("ALONE", False)))
+    return frozenset(needs), proved, alone
+
+
+def written(module):
+    """Returns the names of the tests that a module's source has, for a module that can't be loaded here."""
+    return sorted(f"{module}.{kind.name}.{one.name}" for kind in source_of(module).body if isinstance(kind, ast.ClassDef)
+                  for one in kind.body if isinstance(one, ast.FunctionDef) and one.name.startswith("test"))
+
+
+def names_here():
+    """Returns the names of the tests of each module."""
+    found = {}
+    for module in modules():
+        try:
+            found[module] = list(methods(module))
+        except Exception:  # its own run reports why
+            found[module] = written(module)
+    return found
+
+
+@functools.cache
+def names():
+    """Returns the names of the tests of each module. Another process loads the modules, since they may change its settings."""
+    with tempfile.NamedTemporaryFile("r") as file:
+        subprocess.run([sys.executable, "-m", "dev.runner", "--names", "--record", file.name], cwd=TOP, check=True)
+        return json.load(file)
 
 
 class Recorded(unittest.TestResult):
@@ -136,11 +173,14 @@ def run_module(module, names, file):
 
 def main():
     parser = argparse.ArgumentParser(description=__doc__, formatter_class=argparse.RawDescriptionHelpFormatter)
-    parser.add_argument("module")
+    parser.add_argument("module", nargs="?")
     parser.add_argument("tests", nargs="*", metavar="TEST", help="names of tests; all if none is named")
     parser.add_argument("--record", type=pathlib.Path, default="/dev/stdout", help="the file that gets a line for each test")
+    parser.add_argument("--names", action="store_true", help="writes the names of all tests as JSON instead")
     args = parser.parse_args()
     with open(args.record, "a") as file:
+        if args.names:
+            return file.write(json.dumps(names_here()))
         run_module(args.module, args.tests, file)
 
 

@@ -27,7 +27,7 @@ LEAST_WRITTEN = 65_000
 BATCHES = ("1", "64", "1024")
 # The rows that a thread renders at once (PIECE_ITEMS of rt_run/src/rendering.rt).
 PIECE = 16_384
-# A forwarding table has an entry of four bytes for each 256 addresses.
+# A forwarding table has an entry of four bytes for each 256 addresses, and for each address of a block with longer prefixes.
 FORWARDING_TABLE = 1 << 26
 
 
@@ -200,7 +200,8 @@ class Work(CountedCase):
             with self.subTest(name):
                 counts = self.counted("lookup", "--addresses", "addresses.txt", "1.feed", "2.feed", stdout=stdout,
                                       preexec_fn=lambda: use_processors(1))
-                self.assertEqual(counts.largest >= FORWARDING_TABLE, count == len(places), counts.largest)
+                # The routes are in a quarter as many blocks of 256 addresses, each of which needs entries of its own.
+                self.assertEqual(counts.largest > len(places) // 4 * 256 * 4, count == len(places), counts.largest)
 
     # Catches rows that are rendered again while they are written: `lookup`, `table`, `diff`.
     @unittest.skipIf(len(os.sched_getaffinity(0)) < 2, "one processor renders nothing beforehand")

@@ -130,13 +130,11 @@ class Kept:
 
     def of(self, mutant):
         """Returns all on which the verdict on a mutant depends."""
-        return self.now.shared(self.crate), self.now.own(self.crate), mutant.name, mutant.without_goal()
+        return self.now.shared(self.crate), self.now.own(self.crate), mutant.section
 
     def said_of(self, mutant):
-        """Returns what was said of the mutant as it was refused, by the goal that it names, or of the control as it was
-        taken; or None."""
-        said = self.entries[mutant.name].said() if mutant.form else None
-        return said if said and (not mutant.goal or f"`{mutant.goal}`" in said or said.startswith("taken")) else None
+        """Returns what was said of the mutant as it was refused, or None."""
+        return self.entries[mutant.name].said() if mutant.form else None
 
     def keep(self, results):
         """Keeps what was said of each of these that are as they must be, unless something has changed since."""

@@ -9,7 +9,7 @@ import re
 
 from dev.crates import CRATES, below, crate_of, needs
 from dev.statements.definition_reader import constructors, example_files, imports, parse_module, uncommented
-from dev.mutants.mutant_lists import BadMutant
+from dev.mutants.mutant_lists import BadMutant, pairs_of, sections_of
 from dev.prover import said_by, said_of
 from dev.build.workspaces import lay_out
 
@@ -31,8 +31,8 @@ class Change:
     def __init__(self, crate, section):
         self.crate, self.name = crate, section.partition("\n")[0]
         self.form = FORM.fullmatch(section)
-        _, self.file, pairs, self.example = self.form.groups() if self.form else ("", "", "", "")
-        self.pairs = re.findall(r"^old: (.+)\nnew: ?(.*)$", pairs, re.M)
+        _, self.file, pairs, self.example = self.form.groups() if self.form else ("",) * 4
+        self.pairs = pairs_of(pairs)
 
     def changed(self, text):
         """Returns the file's text after each pair was replaced, one after another."""
@@ -49,9 +49,7 @@ def listing_crates():
 
 def changes_of(crate):
     """Returns the changes that a crate lists, in order."""
-    file = CRATES / crate / "must-fail/definitions.md"
-    return [Change(crate, section)
-            for section in re.split(r"^## ", file.read_text(), flags=re.M)[1:]] if file.exists() else []
+    return [Change(crate, section) for section in sections_of(CRATES / crate / "must-fail/definitions.md")]
 
 
 # -- files and what is declared in them
@@ -92,7 +90,8 @@ class File:
 
     def __init__(self, path, text=None):
         self.crate, self.path = crate_of(path), path
-        self.module = f"Rattle.{self.crate}." + str(path.relative_to(CRATES / self.crate).with_suffix("")).replace("/", ".")
+        parts = path.relative_to(CRATES / self.crate).with_suffix("").parts
+        self.module = ".".join(["Rattle", self.crate, *parts])
         self.uses, self.blocks, self.owner = [], [], {}
         text = path.read_text() if text is None else text
         self.read(text.split("\n"))
@@ -142,7 +141,8 @@ class Crate:
     def spoken_of(self, block):
         found = set()
         for word in block.words():
-            module, name = (block.file.module, word) if word in block.file.owner else block.file.imported.get(word, (None, None))
+            file = block.file
+            module, name = (file.module, word) if word in file.owner else file.imported.get(word, (None, None))
             if module in self.files and name in self.files[module].owner:
                 found.add(self.files[module].owner[name])
         return found - {block}
@@ -178,8 +178,8 @@ class Copy:
         return f"H{self.number}_" + file.module.removeprefix("Rattle.").replace(".", "_")
 
     def uses(self, file, kept):
-        """Returns the `use` lines of the copy of a file. Copied names come from the copies, all others from their original
-        place, except unused types, which may be private to the crate."""
+        """Returns the `use` lines of the copy of a file. Copied names come from the copies, all others from their
+        original place, except unused types, which may be private to the crate."""
         out, words = [], set().union(*(WORD.findall(uncommented(self.text_of(block))) for block in kept))
         is_changed = self.new_uses is not None and any(block in self.texts for block in kept)
         for module, items, alias in self.new_uses if is_changed else file.uses:
@@ -203,7 +203,8 @@ class Copy:
         return self.texts.get(block) or block.text()
 
     def files(self):
-        """Yields each file: its name, its text, and its blocks. There is an empty line before each block and none in it."""
+        """Yields each file: its name, its text, and its blocks. There is an empty line before each block and none in
+        it."""
         for file in self.crate.files.values():
             kept = [block for block in file.blocks if block in self.needed]
             if not kept:
@@ -235,8 +236,8 @@ class Scratch:
         (self.folder / "src/lib.rt").write_text(ROOT)
 
     def tried(self, copies, check):
-        """Returns for each copy the blocks that the prover refuses, with None for an error elsewhere; returns None if the
-        check doesn't end. check: runs the prover on the crate of copies and returns its output, or None."""
+        """Returns for each copy the blocks that the prover refuses, with None for an error elsewhere; returns None if
+        the check doesn't end. check: runs the prover on the crate of copies and returns its output, or None."""
         written = {}
         for copy in copies:
             for name, text, blocks in copy.files():
@@ -250,7 +251,8 @@ class Scratch:
         return refused
 
     def refused_in(self, printed, written):
-        """Returns the blocks of each copy that have the printed errors. There is an empty line before each block of a file."""
+        """Returns the blocks of each copy that have the printed errors. There is an empty line before each block of a
+        file."""
         refused = collections.defaultdict(set)
         for name, _, line in ERROR.findall(printed):
             copy, blocks = written[name]
@@ -269,14 +271,15 @@ class Scratch:
 
 
 def by_check(seconds):
-    """Returns the check for a developer, based on what earlier checks kept in out/. It returns None if there is no verdict
-    after `seconds` of processor time."""
+    """Returns the check for a developer, based on what earlier checks kept in out/. It returns None if there is no
+    verdict after `seconds` of processor time."""
     words = ["rt", "check", "--jobs", "1", "--allow-holes"]
     return lambda scratch: with_verdict(said_by(words, scratch.folder, seconds))
 
 
 def by_gate(seconds):
-    """Returns the check for ./test: it only checks the crate of copies, based on the libraries that `rt ci` just built."""
+    """Returns the check for ./test: it only checks the crate of copies, based on the libraries that `rt ci` just
+    built."""
     return lambda scratch: with_verdict(said_of(COPIES, scratch.named, scratch.folder, seconds=seconds))
 
 

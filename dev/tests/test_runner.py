@@ -1,5 +1,6 @@
 """Tests the runner of tests and the list of expected tests: what fails is recorded, and what is dropped, emptied or new is
 noticed."""
+import ast
 import json
 import sys
 import textwrap
@@ -176,8 +177,8 @@ class Expected(TestCase):
     def test_an_update_writes_what_ran(self):
         changed = [record("tests.test_a.A.test_one", assertions=4, parts=["[y]"]), record("tests.test_a.A.test_new", assertions=None)]
         expected.keep(changed)
-        with mock.patch.object(runner, "modules", return_value=["tests.test_a"]), \
-                mock.patch.object(runner, "methods", return_value=["tests.test_a.A.test_one", "tests.test_a.A.test_new"]):
+        exist = {"tests.test_a": ["tests.test_a.A.test_one", "tests.test_a.A.test_new"]}
+        with mock.patch.object(runner, "names", return_value=exist):
             self.assertEqual(expected.update(["mutant rt_rib:two"]), [])
         tests, others = expected.read()
         self.assertEqual(tests, {"tests.test_a.A.test_one": (4, {"[y]"}), "tests.test_a.A.test_new": (None, set())})
@@ -193,13 +194,23 @@ class Names(TestCase):
         self.assertEqual({f"{module.replace('.', '/')}.py" for module in runner.modules()}, files)
 
     def test_no_test_outside_the_folders(self):
-        own = {"bindings/python"}  # its own command runs these, and bindings/tests names them
         strays = [str(file.relative_to(TOP)) for file in TOP.rglob("test_*.py")
-                  if not any(str(file.relative_to(TOP)).startswith(f"{folder}/") for folder in (*runner.FOLDERS, *own, "out"))]
+                  if not any(str(file.relative_to(TOP)).startswith(f"{folder}/") for folder in (*runner.FOLDERS, "out"))]
         self.assertEqual([name for name in strays if "/out/" not in name], [])
 
     def test_each_method_of_a_test_case_is_a_test(self):
         self.assertIn("dev.tests.test_runner.Names.test_each_method_of_a_test_case_is_a_test", runner.methods("dev.tests.test_runner"))
+
+    def test_needs_are_read_from_the_source(self):
+        self.assertEqual(runner.about("dev.tests.test_runner"), (frozenset(), False, False))
+        self.assertTrue(all(needs <= {"program", "library"} for needs, _, _ in map(runner.about, runner.modules())))
+        forms = "NEEDS = {'program'}\nPROVED = True\n", "NEEDS, PROVED = {'program'}, True\n"
+        for form in forms:
+            with self.subTest(form.splitlines()[0]), mock.patch.object(runner, "source_of", return_value=ast.parse(form)):
+                self.assertEqual(runner.about("tests.test_a"), (frozenset({"program"}), True, False))
+
+    def test_a_module_that_cannot_be_loaded_here(self):
+        self.assertIn("dev.tests.test_runner.Names.test_help_and_list", runner.written("dev.tests.test_runner"))
 
     def test_help_and_list(self):
         for words in (["--help"], ["--list"]):

@@ -12,6 +12,7 @@ import unittest
 from map.tests.answers import COMPARISONS, DENSE, TABLES, AnswerCase, files_of
 from map.tests.pages import END, row, text_of
 from map.tests.test_colours import schemes_of
+from map.yarib_map import chart
 
 NEEDS = {"program"}
 BROWSERS = ("chromium", "chromium-browser", "google-chrome")

@@ -3,6 +3,7 @@
 //! tests of the lock lend, a list of marks.
 #![tactic(auto)]
 
+pub mod callers;
 mod marks;
 
 pub use marks::Marks;
