@@ -337,6 +337,9 @@ class Gate:
             if self.failing:
                 self.say("test: these FAILED:\n" + "".join(self.failing))
             status = stopped.args[0]
+        except SystemExit as ended:  # by a signal
+            status = ended.code
+            raise
         finally:
             self.stop_all()
             if (self.notes / "begun").exists():

@@ -184,7 +184,8 @@ class Release:
         for language, name in (("go", "go"), ("rust", "cargo")):
             tree = Tree()
             for path in tracked(f"bindings/{language}"):
-                tree.copy(TOP / path, path.removeprefix("bindings/"))
+                if "/must-fail/" not in path:
+                    tree.copy(TOP / path, path.removeprefix("bindings/"))
             tree.include(self.notices())
             for header in ("yarib.h", "yarib_check.h"):
                 tree.files[f"c/{header}"] = self.staged.files[f"include/{header}"]

@@ -1,8 +1,9 @@
 """The program's files: names, what can't be read, reports on standard error, and outputs that can't be written."""
 import os
 
+from dev.models import calls
 from dev.models.table_model import E1, E8, MAX_FEEDS
-from tests.cases import ProgramCase, route, table
+from tests.cases import ProgramCase, route
 from tests.texts import ROW, ROW_OUT
 
 NEEDS = {"program"}
@@ -11,13 +12,12 @@ FAULTY = "yarib: {}: faulty lines: {}, the first is line {}: {}\n".format
 OVER = "yarib: {}: adds over the limit: {}, the first is line {}\n".format
 TWICE = "yarib: {}: duplicate adds: {}, the first is line {}\n".format
 GONE = "yarib: {}: replaces and withdraws without a route: {}, the first is line {}\n".format
-CUT = "yarib: {}: the last line has no line end: check that the file is complete\n".format
 FOUND = "10.0.0.1 route "
 # Calls with an output, and calls without one.
 WRITING = [
-    "lookup --help", "table --help", "lookup --address 10.0.0.1 row.feed", "table row.feed", "--help", "help run", "run --help",
-    "replay --help", "--version", "-V", "replay --levels 6", "replay --levels 2 3 3 3 3 3 3 3 3 3 3 3 3", "run row.feed",
-    "run empty.feed", "run faulty.feed",
+    "lookup --help", "table --help", "lookup --address 10.0.0.1 row.feed", "table row.feed", "--help", "help run",
+    "run --help", "replay --help", "--version", "-V", "replay --levels 6", "replay --levels 2 3 3 3 3 3 3 3 3 3 3 3 3",
+    "run row.feed", "run empty.feed", "run faulty.feed",
 ]
 SILENT = [
     ("table empty.feed", "", 0), ("run missing", "yarib: cannot read missing\n", 4),
@@ -25,22 +25,14 @@ SILENT = [
 ]
 
 
-def close_output():
-    os.close(1)
-
-
-def close_all():
-    """Closes standard input, output and error, in a process that is about to begin."""
-    os.closerange(0, 3)
-
-
 class Names(ProgramCase):
     # Catches a program that names the last unreadable file instead of the first: `run no nor`.
     def test_unreadable_files(self):
         (self.folder / "folder").mkdir()
         for words, file in (
-            ("no nor", "no"), ("nor no", "nor"), ("row.feed no nor", "no"), ("faulty.feed no", "no"), ("folder", "folder"),
-            ("row.feed folder no", "folder"), ("row.feed/x", "row.feed/x"), ("-- --limit", "--limit"),
+            ("no nor", "no"), ("nor no", "nor"), ("row.feed no nor", "no"), ("faulty.feed no", "no"),
+            ("folder", "folder"), ("row.feed folder no", "folder"), ("row.feed/x", "row.feed/x"),
+            ("-- --limit", "--limit"),
         ):
             self.assert_unreadable(f"run {words}", file)
         for name in ("", "no such file", "né.feed", "x" * 300, "/no/such/file", "-", "it's $HOME"):
@@ -62,7 +54,8 @@ class Names(ProgramCase):
         self.assert_misused("run --", "<FILE>")
 
     def test_words_that_are_no_text(self):
-        for words in ([b"run", b"\xff.feed"], [b"run", b"row.feed", b"\xc3"], [b"\x80"], [b"replay", b"--levels", b"\xf0\x9f"]):
+        for words in ([b"run", b"\xff.feed"], [b"run", b"row.feed", b"\xc3"], [b"\x80"],
+                      [b"replay", b"--levels", b"\xf0\x9f"]):
             self.assert_refused(words, "arguments are not UTF-8")
 
 
@@ -96,16 +89,17 @@ class Reports(ProgramCase):
     # third file and one that is named again`.
     # Catches a program that prints only the last component of a path: `all kinds of one file`.
     # Catches a program that reports a duplicate `add` as one over the limit: `an add of what is there`.
-    # Catches a program that reports the last line of a kind, the first line of another kind, or a number that leaves out
-    # skipped or faulty lines: `all kinds of one file`.
-    # Catches status 0 of `table` if there were only `add`s over the limit: `adds over the limit alone`.
+    # Catches a program that reports the last line of a kind, the first line of another kind, or a number that leaves
+    # out skipped or faulty lines: `all kinds of one file`.
+    # Catches status 0 of `table` if there were only `add`s over the limit: `table --limit 1 over.feed`.
     def test_each_file(self):
         """Each file is reported, by the whole of its name and each time it is given."""
         long = "a folder/deep/kinds.feed"
         self.write({
             long: f"# note\n\n{ROW}{ROW}replace 11.0.0.0/8 1 192.0.2.1\nwithdraw 12.0.0.0/8\nwithdraw 12.0.0.0/8\n"
                   "add 13.0.0.0/8 1 192.0.2.1\nfrob\ndump 1\n",
-            "again.feed": ROW + ROW, "gone.feed": "withdraw 10.0.0.0/8\n", "over.feed": ROW + "add 11.0.0.0/8 1 192.0.2.1\n",
+            "again.feed": ROW + ROW, "gone.feed": "withdraw 10.0.0.0/8\n",
+            "over.feed": ROW + "add 11.0.0.0/8 1 192.0.2.1\n",
         })
         kinds = FAULTY(long, 2, 9, E1) + OVER(long, 1, 8) + TWICE(long, 1, 4) + GONE(long, 3, 5)
         again, gone = TWICE("again.feed", 1, 2), GONE("gone.feed", 1, 1)
@@ -115,7 +109,7 @@ class Reports(ProgramCase):
         self.assert_prints([*table_of, "gone.feed"], "", gone, name="a withdrawal of what isn't there")
         self.assert_prints([*table_of, "row.feed", "gone.feed", long, "again.feed", long, "gone.feed"], route(1),
                            gone + kinds + again + kinds + gone, 2, name="a third file and one that is named again")
-        self.assert_prints("table --limit 1 over.feed", route(1), OVER("over.feed", 1, 2), 2, name="adds over the limit alone")
+        self.assert_prints("table --limit 1 over.feed", route(1), OVER("over.feed", 1, 2), 2)
         turns, more = divmod(MAX_FEEDS, 3)
         names = ["again.feed", "gone.feed", "row.feed"] * turns + ["again.feed", "gone.feed"][:more]
         reports = {"again.feed": again, "gone.feed": gone}
@@ -124,56 +118,28 @@ class Reports(ProgramCase):
 
     # Catches counts of rejected input that stop at 255, 1,000 or 65,535.
     def test_tens_of_thousands_of_each_kind(self):
-        counts = {"frob\n": 70_001, "add 11.0.0.0/8 1 192.0.2.1\n": 70_002, ROW: 70_003, "withdraw 12.0.0.0/8\n": 70_004}
-        self.write({"many.feed": ROW + "".join(line * count for line, count in counts.items())})
+        self.write({"many.feed": ROW + "frob\n" * 70_001 + "add 11.0.0.0/8 1 192.0.2.1\n" * 70_002 + ROW * 70_003
+                    + "withdraw 12.0.0.0/8\n" * 70_004})
         self.assert_prints("table --best --limit 1 many.feed", route(1), FAULTY("many.feed", 70_001, 2, E1)
                            + OVER("many.feed", 70_002, 70_003) + TWICE("many.feed", 70_003, 140_005)
                            + GONE("many.feed", 70_004, 210_008), 2)
 
 
 class CutFiles(ProgramCase):
-    """A feed file whose last line has no line end is reported, and its last line is executed."""
-
-    def setUp(self):
-        super().setUp()
-        self.write({"whole.feed": "add 10.0.0.0/8 100 192.0.2.12\n", "cut.feed": "add 10.0.0.0/8 100 192.0.2.1"})
-
-    # Catches a report with a status of its own, or one that replaces that of rejected input: `cut within a faulty line`.
-    def test_queries(self):
-        cut, second = CUT("cut.feed"), route(2)
-        self.assert_prints("run cut.feed", "1:1 added\n" + table(route(1)), name="a run, which only writes its faults")
-        self.assert_prints("lookup --address 10.0.0.1 cut.feed", FOUND + route(1), cut)
-        for options, rows in ("", second), ("--best --total", second + "total 1\n"), ("--within 11.0.0.0/8", ""):
-            self.assert_prints(f"table {options} empty.feed cut.feed", rows, cut)
-        self.assert_prints("table --without 1 cut.feed whole.feed", route(2, hop="192.0.2.12"))
-        self.assert_prints("table --feed 2 cut.feed empty.feed", "", cut)
-        self.assert_unreadable("table cut.feed missing.feed", "missing.feed")
-        self.write({"cut.txt": "10.0.0.1"})
-        self.assert_prints("lookup --addresses cut.txt whole.feed", FOUND + route(1, hop="192.0.2.12"))
-
-    def test_both_sides(self):
-        lines = "10.0.0.0-10.255.255.255 via 192.0.2.12 -> via 192.0.2.1\n"
-        self.assert_prints("diff whole.feed -- cut.feed", lines, CUT("cut.feed"), 1)
-        self.assert_prints("diff cut.feed -- cut.feed", "", CUT("cut.feed") * 2)
-
-    # Catches a program that reports a cut file only if its last line is a command: `a comment`.
-    # Catches a program that reports a file that has no line, or one whose last line is empty: `an empty file`, `an empty line`.
-    def test_last_lines(self):
-        cut = CUT("some.feed")
-        for name, text, report in (
-                ("an empty file", "", ""), ("an empty line", "\n", ""), ("a comment", "# cut", cut), ("the version", "version 2", cut),
-                ("cut within a faulty line", "\nad", FAULTY("some.feed", 1, 2, E1) + cut)):
-            self.write({"some.feed": text})
-            self.assert_prints("table some.feed", "", report, 2 if "faulty" in report else 0, name=name)
+    # Catches a program that reports a cut file only if its last line is a command: `table comment.feed`.
+    # Catches a program that reports a file that has no line, or one whose last line is empty: `no-line.feed`.
+    # Catches a report with a status of its own, or one that replaces that of rejected input: `table faulty-line.feed`.
+    def test_calls(self):
+        self.assert_calls(calls.CUT_FILES, calls.CUT)
 
 
 class Outputs(ProgramCase):
     # Catches status 0 if help or version can't be written: `--help`.
     def test_closed_output(self):
-        for words in WRITING:
+        for words, stderr, returncode in (*((words, "yarib: cannot write\n", 6) for words in WRITING), *SILENT):
             with self.subTest(words):
-                ended = self.yarib(*words.split(), stdout=None, preexec_fn=close_output)
-                self.assert_ended(ended, "", "yarib: cannot write\n", 6)
+                ended = self.yarib(*words.split(), stdout=None, preexec_fn=lambda: os.close(1))
+                self.assert_ended(ended, "", stderr, returncode)
 
     # Catches status 0 for an output that accepts nothing: the status is not 6.
     def test_full_output(self):
@@ -183,10 +149,5 @@ class Outputs(ProgramCase):
     def test_nothing_open(self):
         for words in WRITING:
             with self.subTest(words):
-                self.assert_ended(self.yarib(*words.split(), stdout=None, stderr=None, preexec_fn=close_all), returncode=6)
-
-    def test_calls_without_output(self):
-        for words, stderr, returncode in SILENT:
-            with self.subTest(words):
-                ended = self.yarib(*words.split(), stdout=None, preexec_fn=close_output)
-                self.assert_ended(ended, "", stderr, returncode)
+                ended = self.yarib(*words.split(), stdout=None, stderr=None, preexec_fn=lambda: os.closerange(0, 3))
+                self.assert_ended(ended, returncode=6)

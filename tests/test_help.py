@@ -7,22 +7,12 @@ from dev.crates import TOP
 from dev.models import calls
 from dev.testing import program
 from dev.versions import VERSION
-from tests.cases import TRY_HELP, ProgramCase, route, table
+from tests.cases import ProgramCase
 from tests.texts import ROW
 
 NEEDS = {"program"}
 
 PAGES = calls.help_texts()
-NEW = "\n\n  tip: a similar argument exists: '--new-{}'".format
-# Calls with an unknown option, the hint at a similar one, and the usage.
-UNKNOWN_OPTIONS = [
-    ("lookup --count row.feed", "", "lookup [OPTIONS] <FILE>..."),
-    ("table --cuont row.feed", "\n\n  tip: a similar argument exists: '--count'", "table --count <FILE>..."),
-    ("diff row.feed --frob -- row.feed", "", "diff <OLD>... -- <NEW>..."),
-    ("diff --new-old-feed row.feed", NEW("feed"), "diff [OPTIONS] <OLD>... -- <NEW>..."),
-    ("diff --new-onyl row.feed", NEW("only"), "diff --new-only <F> <OLD>... -- <NEW>..."),
-    ("run --frob=1 row.feed", "", "run [OPTIONS] <FILE>..."),
-]
 # The help's text for an error, and a line that has it; the help's text for a status, and a call that ends with it.
 FAULTS = [
     ("E1 unknown command", "frob"), ("E2 wrong number of fields", "dump x"),
@@ -76,7 +66,7 @@ class Help(ProgramCase):
                              ("no-option", ("--frob", "--limit", "--limits", "--help-me", "--versions", "--run"))):
             for words in [[one, *more] for one in listed for more in ([], ["run", "row.feed"], ["--help"])]:
                 ended = self.yarib(*words)
-                found = re.sub(r"\n\n  tip: .*?\n\nUsage: yarib (--\w+ )?", "\n\nUsage: yarib ", ended.stderr, flags=re.S)
+                found = re.sub(r"  tip: .*?\n\nUsage: yarib (--\w+ )?", "Usage: yarib ", ended.stderr, flags=re.S)
                 with self.subTest(" ".join(words)):
                     self.assert_ended(ended._replace(stderr=found), "", stored(name).replace("WORD", words[0]), 3)
 
@@ -91,9 +81,7 @@ class Help(ProgramCase):
     # Catches a program that gives the advice of the library, to pass an unknown option as a file's name.
     def test_unknown_options(self):
         """The message on an unknown option, to the byte."""
-        for words, hint, usage in UNKNOWN_OPTIONS:
-            option = next(word.split("=")[0] for word in words.split() if word.startswith("--"))
-            self.assert_prints(words, "", f"error: unexpected argument '{option}' found{hint}\n\nUsage: yarib {usage}{TRY_HELP}", 3)
+        self.assert_calls({}, calls.UNKNOWN)
 
     # Catches a help page whose replay shows another value.
     def test_examples(self):
@@ -120,10 +108,3 @@ class Help(ProgramCase):
             with self.subTest(text), open("/dev/full" if text[0] == "6" else "/dev/null", "w") as output:
                 self.assertEqual(self.yarib("run", word, stdout=output).returncode, int(text[0]))
                 self.assertIn(f" {text}", page)
-
-    def test_version_2(self):
-        text = "#" * 128 + "\nversion 2\nadd 10.0.0.0/8 1 discard\npurge\n"
-        self.assert_run("on a later line", [text], "1:2 fault E1\n1:3 fault E7\n1:4 fault E1\ntable 0\n", 2)
-        text = "version 2\nadd 10.0.0.0/8 1 discard\nreplace 10.0.0.0/8 2 discard\npurge\n" + ROW
-        self.assert_run("on the first line", [text],
-                        "1:2 added\n1:3 replaced\n1:4 purged 1\n1:5 added\n" + table(route(1)))

@@ -1,4 +1,4 @@
-"""Lines of feed files: the fault of each, its message, and hostile lines beside a plain reader (tests/line_reader.py)."""
+"""Lines of feed files: the fault of each, its message, and hostile lines, which a plain reader reads too."""
 import gzip
 import random
 
@@ -133,14 +133,7 @@ FIELDS = [
 ENDS = [b"", b"", b"", b"", b" ", b"\r", b"\0", b"\x80"]
 
 
-def hostile_lines(seed):
-    """Returns a thousand random lines, and a last one that is seen."""
-    choice = random.Random(seed)
-    fields = lambda: b"".join(b" " + choice.choice(FIELDS) for _ in range(choice.randrange(5)))
-    return [choice.choice(NAMES) + fields() + choice.choice(ENDS) for _ in range(1000)] + [b"frob"]
-
-
-class HostileLines(ProgramCase):
+class HostileCase(ProgramCase):
     def assert_lines(self, hostile):
         """Compares the program's answers to these lines with the plain reader's, in a text of each version that ends in
         the last."""
@@ -148,6 +141,8 @@ class HostileLines(ProgramCase):
             text, answers, status = run_of(hostile, version)
             self.assert_run(f"version {version}", [text], report(1, answers) + "table 0\n", status)
 
+
+class HostileLines(HostileCase):
     # Catches a reader that reads two spaces as a single one.
     # Catches a reader that accepts a leading zero.
     # Catches a preference that wraps to 0 from 2^32 on.
@@ -162,24 +157,35 @@ class HostileLines(ProgramCase):
 
     # Catches a reader that accepts 129 bytes.
     def test_lines_about_128_bytes(self):
-        self.assert_lines([front + bytes([filling]) * count for front in FRONTS for filling in b"10 x\0" for count in range(131)])
+        fillings = [bytes([filling]) * count for filling in b"10 x\0" for count in range(131)]
+        self.assert_lines([front + filling for front in FRONTS for filling in fillings])
 
-    # Catches a reader that ends a field at NUL, like at a space.
-    # Catches a reader that ignores a carriage return at the end.
-    # Catches a reader that accepts `:` as a digit, one past `9`.
-    # Catches a reader that reads the length 33 as 32.
+
+# Catches a reader that ends a field at NUL, like at a space.
+# Catches a reader that ignores a carriage return at the end.
+# Catches a reader that accepts `:` as a digit, one past `9`.
+# Catches a reader that reads the length 33 as 32.
+class EveryByte(HostileCase):
+    """Every byte at every place of each command."""
+
     def assert_every_byte(self, command):
-        """Puts every byte at every place of a command."""
-        self.assert_lines([command[:at] + bytes([byte]) + command[at + 1 :] for at in range(len(command)) for byte in range(256)])
+        self.assert_lines([command[:at] + bytes([byte]) + command[at + 1 :]
+                           for at in range(len(command)) for byte in range(256)])
 
-    # Catches a reader that drops a last line without LF.
-    # Catches a number that wraps at 2^64.
+
+# Catches a reader that drops a last line without LF.
+# Catches a number that wraps at 2^64.
+class DrawnLines(HostileCase):
+    """A thousand random lines by each seed, and a last one that is seen."""
+
     def assert_drawn_lines(self, seed):
-        self.assert_lines(hostile_lines(seed))
+        choice = random.Random(seed)
+        fields = lambda: b"".join(b" " + choice.choice(FIELDS) for _ in range(choice.randrange(5)))
+        self.assert_lines([choice.choice(NAMES) + fields() + choice.choice(ENDS) for _ in range(1000)] + [b"frob"])
 
 
 for number, command in enumerate(COMMANDS, 1):
-    name = command.split()[0].decode()
-    setattr(HostileLines, f"test_every_byte_{number:02}_{name}", lambda self, command=command: self.assert_every_byte(command))
+    name = f"test_{number:02}_{command.split()[0].decode()}"
+    setattr(EveryByte, name, lambda self, command=command: self.assert_every_byte(command))
 for seed in range(1, 41):
-    setattr(HostileLines, f"test_drawn_lines_{seed:02}", lambda self, seed=seed: self.assert_drawn_lines(seed))
+    setattr(DrawnLines, f"test_seed_{seed:02}", lambda self, seed=seed: self.assert_drawn_lines(seed))

@@ -197,7 +197,7 @@ class Packages(TestCase):
                          {(0, 0, 0o644, int(git("log", "-1", "--format=%ct")))})
         files = [path.removeprefix("bindings/python/") for path in tracked("bindings/python")]
         self.assertEqual(sorted(one.name.partition("/")[2] for one in members if one.isfile()),
-                         sorted(["PKG-INFO", *(name for name in files if not name.startswith("tests/"))]))
+                         sorted(["PKG-INFO", *(name for name in files if not name.startswith(("tests/", "must-fail/")))]))
 
     # Catches a source archive that pip makes no package of.
     @unittest.skipUnless(has_pip(), "python3 has no pip")

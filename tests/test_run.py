@@ -17,14 +17,14 @@ FIRST_LINES = [
     (2, "version 2"), (1, ""), (1, "\nversion 2"), (1, "# x\nversion 2"), (1, "version 2\r"), (1, "version 2 "),
     (1, " version 2"), (1, "version  2"), (1, "version 1"), (1, "Version 2"), (1, "version 22"), (1, "version"),
 ]
-# Texts and the answers to their lines: each `frob` is a line that is seen.
+# Texts with CR, without a last LF, and empty, and how a run of each ends. Each `frob` is a line that is seen.
 TEXTS = [
-    ("", []), ("\n", [None]), ("frob", ["fault E1"]), ("frob\n", ["fault E1"]), ("frob\n\n", ["fault E1", None]),
-    ("\n\nadd", [None, None, "fault E2"]), ("# note\nfrob\r\n", [None, "fault E1"]),
-    ("dump\rdump\nfrob", ["fault E1", "fault E1"]),
-]
-# Texts with CR, without a last LF, and empty, and how a run of each ends.
-ENDS_OF_LINES = [
+    ("frob", 2, "1:1 fault E1\ntable 0\n"),
+    ("frob\n", 2, "1:1 fault E1\ntable 0\n"),
+    ("frob\n\n", 2, "1:1 fault E1\ntable 0\n"),
+    ("\n\nadd", 2, "1:3 fault E2\ntable 0\n"),
+    ("# note\nfrob\r\n", 2, "1:2 fault E1\ntable 0\n"),
+    ("dump\rdump\nfrob", 2, "1:1 fault E1\n1:2 fault E1\ntable 0\n"),
     ("add 10.0.0.0/8 100 192.0.2.1\r\n", 2, "1:1 fault E7\ntable 0\n"),
     ("dump\r\n", 2, "1:1 fault E1\ntable 0\n"),
     ("\r\n", 2, "1:1 fault E1\ntable 0\n"),
@@ -38,24 +38,6 @@ ENDS_OF_LINES = [
     ("\ufeffdump\n", 2, "1:1 fault E1\ntable 0\n"),
     ("dump\0\n", 2, "1:1 fault E1\ntable 0\n"),
 ]
-# Texts of feeds whose output is the same for every interleaving, their answers, and the table's rows.
-FEEDS = [
-    (
-        ["add 10.0.0.0/8 5 192.0.2.1\n", "add 10.0.0.0/8 5 192.0.2.2\n"],
-        [["added"], ["added"]],
-        [route_text("10.0.0.0/8", 1, 5), route_text("10.0.0.0/8", 2, 5, "192.0.2.2")],
-    ),
-    (
-        ["add 10.0.0.0/8 7 192.0.2.1\n", "add 10.0.0.0/8 5 192.0.2.2\n"],
-        [["added"], ["added"]],
-        [route_text("10.0.0.0/8", 2, 5, "192.0.2.2"), route_text("10.0.0.0/8", 1, 7)],
-    ),
-    (
-        ["version 2\nadd 10.0.0.0/8 1 192.0.2.1\npurge\n", "add 10.0.0.0/8 2 192.0.2.2\npurge\n"],
-        [[None, "added", "purged 1"], ["added", "fault E1"]],
-        [route_text("10.0.0.0/8", 2, 2, "192.0.2.2")],
-    ),
-]
 # The number of places of the lock's tree at each height.
 PLACES = [2**levels for levels in range(1, MAX_FEEDS.bit_length())]
 # Numbers that no option accepts; the greater two would wrap to 1.
@@ -66,6 +48,8 @@ class Runs(ProgramCase):
     # Catches a program that reports out of memory, or a usage error, for every file.
     # Catches a program that reads a directory as an empty file: `run .`.
     # Catches a command line that rejects `--levels 255` itself, instead of P2: `replay --levels 255 0`.
+    # Catches `run_feed` always returning M3, or `run_feeds` F3.
+    # Catches F3 for two feeds in batches of 2.
     def test_calls(self):
         self.assert_calls(calls.RUN_FILES, calls.RUNS)
 
@@ -95,21 +79,18 @@ class Runs(ProgramCase):
             answers = [None if line[:1] in ("", "#") else "fault E1" for line in lines]
             if version == 2:
                 answers = [None, "purged 0"]
-            self.assert_run(f"first line {first!r}", ["\n".join(lines)], report(1, answers) + "table 0\n", 2 if version == 1 else 0)
+            self.assert_run(f"first line {first!r}", ["\n".join(lines)], report(1, answers) + "table 0\n",
+                            2 if version == 1 else 0)
 
     # Catches a reader that drops a last line without LF.
     def test_texts_are_cut_into_lines(self):
-        for text, answers in TEXTS:
-            self.assert_run(repr(text), [text], report(1, answers) + "table 0\n", 2 if any(answers) else 0)
-
-    def test_ends_of_lines(self):
-        for text, returncode, stdout in ENDS_OF_LINES:
+        for text, returncode, stdout in TEXTS:
             self.assert_run(repr(text), [text], stdout, returncode)
         self.assert_prints("run row.feed empty.feed row.feed", "1:1 added\n3:1 added\n" + table(route(1), route(3)))
 
     def changes_of(self, seed):
-        """Runs thousands of random commands of one feed over nested prefixes, and compares each answer with the model's, and
-        the table."""
+        """Runs thousands of random commands of one feed over nested prefixes, and compares the answers and the table
+        with the model's."""
         choice, lines = random.Random(seed), ["version 2"]
         for _ in range(4_000):
             length = choice.choice((0, 1, 2, 8, 9, 15, 16, 17, 23, 24, 31, 32))
@@ -162,15 +143,7 @@ class Files(ProgramCase):
     # Catches `SharedRib::new` failing for a limit over 65,536, or for some number of levels, such as that of 16 feeds.
     def test_tables_of_each_size(self):
         for feeds, limit in zip(PLACES, itertools.cycle((1, 65_536, 65_537, 100_000, 999_999, 1_000_000))):
-            self.assert_run(f"{feeds} feeds of {limit} routes", [""] * feeds, "table 0\n", words=["--limit", str(limit)])
-
-    # Catches `run_feed` always returning M3, or `run_feeds` F3.
-    # Catches F3 for two feeds in batches of 2.
-    def test_feeds_meet_in_one_table(self):
-        for number, (texts, answers, rows) in enumerate(FEEDS, 1):
-            wanted = report(1, answers[0]) + report(2, answers[1]) + table_text(rows)
-            for batch in ("1", "2", "1024"):
-                self.assert_run(f"pair {number} in batches of {batch}", texts, wanted, 2 if "fault" in wanted else 0, ["--batch", batch])
+            self.assert_run(f"{feeds} feeds of {limit} routes", [""] * feeds, "table 0\n", 0, ["--limit", str(limit)])
 
 
 class Options(ProgramCase):
@@ -179,8 +152,9 @@ class Options(ProgramCase):
         self.write({"four.feed": "".join(f"add 10.{k}.0.0/16 1 192.0.2.1\n" for k in range(1, 5))})
         for limit in (1, 2, 3, 4, 5, 1_000_000, None):
             kept = min(limit or 4, 4)
-            answers = "".join(f"{feed}:{k} {'added' if k <= kept else 'full'}\n" for feed in (1, 2) for k in range(1, 5))
-            output = answers + table(*(route(feed, f"10.{k}.0.0/16", 1) for k in range(1, kept + 1) for feed in (1, 2)))
+            answers = ["added"] * kept + ["full"] * (4 - kept)
+            routes = [route(feed, f"10.{k}.0.0/16", 1) for k in range(1, kept + 1) for feed in (1, 2)]
+            output = report(1, answers) + report(2, answers) + table(*routes)
             words = ["--limit", str(limit)] if limit else []
             for more in ([], ["--batch", "3"], ["--batch", "1024"]):
                 self.assert_prints(["run", *words, *more, "four.feed", "four.feed"], output)
@@ -191,7 +165,8 @@ class Options(ProgramCase):
         for option, numbers in (("--limit", ("0", "1000001", "1.0", "0x1", "1 ")), ("--batch", ("0", "1025"))):
             for number in (*numbers, *NO_NUMBERS):
                 self.assert_misused(["run", f"{option}={number}", "row.feed"], f"'{number}'" if number else "", option)
-        for option, number in (("--limit", "0"), ("--limit", "1000001"), ("--limit", "x"), ("--batch", "0"), ("--batch", "1025")):
+        for words in ("--limit 0", "--limit 1000001", "--limit x", "--batch 0", "--batch 1025"):
+            option, number = words.split()
             self.assert_misused(["run", option, number, "row.feed"], f"'{number}'", option)
         for words in ("run --limit", "run --limit --batch 1 row.feed", "--limit 1 run row.feed"):
             self.assert_misused(words, "--limit")
@@ -212,14 +187,14 @@ class Options(ProgramCase):
         multiples."""
         if is_unproved():
             self.skipTest("AddressSanitizer replaces the memory allocator, which makes the schedule")
-        for words, batch in (("--batch 1000", 1000), *((f"--batch {batch}", batch) for batch in (1, 2, 64, 1024)), ("", 1),
+        for words, batch in (("", 1), *((f"--batch {batch}", batch) for batch in (1, 2, 64, 1000, 1024)),
                              ("--limit 1000000 --batch 5", 5), ("--batch 7 --limit 70000", 7)):
             with self.subTest(words or "no --batch"):
                 self.assertEqual(self.batch_seen(words.split(), batch), batch)
 
     def batch_seen(self, words, batch):
-        """Returns the largest number that divides the result of each dump and each position where the result changes; the
-        feed of dumps takes turns with a feed that adds."""
+        """Returns the largest number that divides the result of each dump and each position where the result changes;
+        the feed of dumps takes turns with a feed that adds."""
         count = 16 * batch
         self.write({"dumps.feed": "dump\n" * count,
                     "adds.feed": "".join(f"add 10.{k >> 8}.{k & 255}.0/24 1 192.0.2.1\n" for k in range(count))})

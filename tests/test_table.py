@@ -1,5 +1,6 @@
 """`yarib table`: parts, counts and totals of tables."""
 import collections
+import functools
 import ipaddress
 import json
 import random
@@ -51,20 +52,9 @@ class Parts(ProgramCase):
                     for prefix in given:
                         part = "".join(row + "\n" for row, network in zip(rows, networks) if meets(network, prefix))
                         for word in sorted({str(prefix), str(prefix).removesuffix("/32")}):
-                            ended = self.yarib("table", option, word, *more, "--batch", choice.choice(("1", "256")), *names)
+                            batch = choice.choice(("1", "256"))
+                            ended = self.yarib("table", option, word, *more, "--batch", batch, *names)
                             self.assert_ended(ended, part, message=word)
-
-    def test_empty_table(self):
-        self.assert_parts(0)
-
-    def test_single_routes(self):
-        self.assert_parts(1)
-
-    def test_12_routes(self):
-        self.assert_parts(12)
-
-    def test_300_routes(self):
-        self.assert_parts(300)
 
     def test_invalid_prefixes(self):
         for option in PARTS:
@@ -82,7 +72,8 @@ class Parts(ProgramCase):
             others = [f"{other} 10.0.0.0/8" for other in PARTS if other != option]
             for words in (*others, " ".join(others)):
                 for both in (f"{one} {words}", f"{words} {one}"):
-                    self.assert_refused(f"table {both} row.feed", "only one of --within, --covering and --exact may be given")
+                    self.assert_refused(f"table {both} row.feed",
+                                        "only one of --within, --covering and --exact may be given")
 
 
 def counts_text(rows):
@@ -105,7 +96,7 @@ def counted(line, names):
     return members
 
 
-# Catches a count without some length or feed, or without the last of either, or with routes for prefixes: `Counts.test_300_routes`.
+# Catches a count without some length or feed, or without the last of either, or with routes for prefixes.
 class Counts(ProgramCase):
     """The number of routes in each part of random tables, compared with the rows that the same command prints without
     `--count`; and counts of all feeds and lengths."""
@@ -121,20 +112,8 @@ class Counts(ProgramCase):
                 words = [*part, *more, *names]
                 lines = self.stdout("table", "--count", *words)
                 with self.subTest(" ".join(["--count", "--json", *part, *more])):
-                    found = [json.loads(line) for line in self.stdout("table", "--count", "--json", *words).splitlines()]
-                    self.assertEqual(found, [counted(line, names) for line in lines.splitlines()])
-
-    def test_empty_table(self):
-        self.assert_counts(0)
-
-    def test_single_routes(self):
-        self.assert_counts(1)
-
-    def test_12_routes(self):
-        self.assert_counts(12)
-
-    def test_300_routes(self):
-        self.assert_counts(300)
+                    found = map(json.loads, self.stdout("table", "--count", "--json", *words).splitlines())
+                    self.assertEqual(list(found), [counted(line, names) for line in lines.splitlines()])
 
     def test_max_feeds(self):
         prefixes = [prefix_of(10 << 24, length) for length in range(33)]
@@ -146,17 +125,15 @@ class Counts(ProgramCase):
         self.assertEqual(ended.returncode, 3, "two files of one name")
 
     def test_options(self):
-        self.assert_prints("table --count --json --names row.feed", (
-            '{"routes":1,"prefixes":1}\n{"feed":1,"name":"row","file":"row.feed","routes":1}\n{"length":8,"routes":1}\n'))
         self.assert_misused("lookup --count --address 10.0.0.1 row.feed", "--count")
         self.assert_misused("table --count --count row.feed", "--count")
 
 
 # Catches a total that counts prefixes, or the routes of the whole table: `Totals.test_300_routes`.
-# Catches a table without the line if no route is selected: `Totals.test_empty_table`.
+# Catches a table without the line if no route is selected: `Totals.test_0_routes`.
 class Totals(ProgramCase):
-    """Random tables and parts of them with `--total`: what the same command prints without it, and then the number of these
-    lines."""
+    """Random tables and parts of them with `--total`: what the same command prints without it, and then the number of
+    these lines."""
 
     def assert_totals(self, count):
         _, names = self.random_table(random.Random(f"totals of {count}"), "totalled", count)
@@ -167,17 +144,13 @@ class Totals(ProgramCase):
                 last = f'{{"total":{number}}}\n' if "--json" in more else f"total {number}\n"
                 self.assert_prints(["table", "--total", *part, *more, *names], rows + last)
 
-    def test_empty_table(self):
-        self.assert_totals(0)
-
-    def test_single_routes(self):
-        self.assert_totals(1)
-
-    def test_300_routes(self):
-        self.assert_totals(300)
-
     def test_options(self):
         for both in ("--count --total", "--total --json --count"):
             self.assert_refused(f"table {both} missing.feed", "only one of --count and --total may be given")
         self.assert_misused("lookup --total --address 10.0.0.1 row.feed", "--total")
         self.assert_misused("table --total --total row.feed", "--total")
+
+
+for count in (0, 1, 12, 300):
+    for case, compare in ((Parts, Parts.assert_parts), (Counts, Counts.assert_counts), (Totals, Totals.assert_totals)):
+        setattr(case, f"test_{count}_routes", functools.partialmethod(compare, count))

@@ -3,7 +3,7 @@
  * empty the buffer. In no state may a table be changed or freed in which a reader is, and no state is without a way on. Each wrong
  * protocol of the list below must have such a state.
  *
- * These are the atomic steps of the code that the model has, by function. bindings/test compares them with the code:
+ * These are the atomic steps of the code that the model has, by function. bindings/tests/test_c_model.py compares them with the code:
  *
  *     enter_place: store place->since RELAXED, store place->reading RELEASE, signal_fence SEQ_CST
  *     leave_place: store place->reading RELEASE, store place->owner RELEASE

@@ -20,7 +20,7 @@ from dev.testing import TestCase, call, environment
 BINDINGS = TOP / "bindings"
 STRICT = ["-std=c99", "-Wall", "-Wextra", "-Werror", "-I", BINDINGS / "c"]
 # Memory of malloc in huge pages: a forwarding table of 64 MB takes a quarter of the time to make.
-HUGE_PAGES = {"GLIBC_TUNABLES": "glibc.malloc.hugetlb=1"}
+os.environ["GLIBC_TUNABLES"] = "glibc.malloc.hugetlb=1"
 ADDRESS, THREAD = ("-g", "-fsanitize=address"), ("-g", "-fsanitize=thread")
 COUNT = re.compile(r"^(\d+) comparisons\n\Z", re.M)
 
@@ -125,7 +125,7 @@ class LibraryCase(TestCase):
         """Runs a test and counts its comparisons. Before their number it may print what matches `stdout`, which is returned.
         It fails if there are fewer than `least`."""
         settings.setdefault("timeout", 1800)
-        settings["env"] = environment() | HUGE_PAGES | settings.get("env", {})
+        settings["env"] = environment() | settings.get("env", {})
         ended = self.call(*command, **settings)
         name = " ".join([pathlib.Path(command[0]).name, *map(str, command[1:])])
         self.assert_ended(ended, stdout=None, message=name)

@@ -23,7 +23,12 @@ class Heap(LibraryCase):
     def test_parts(self):
         """What it gives back, and how it doesn't hold up the program's allocations."""
         self.varies()
-        self.run_parts("heap", self.build("heap"))
+        self.run_parts("heap", self.build("heap"), stdout=r"(?s:.*)")
+
+    def test_whole(self):
+        """All parts, one after another, on the slabs that the ones before leave."""
+        self.varies()
+        self.run_counted(self.build("heap"), stdout=r"(?s:.*)", least=1000)
 
     def test_sanitizers(self):
         self.varies()
@@ -32,7 +37,7 @@ class Heap(LibraryCase):
                 self.needs_options("-g", *options)
                 heap = self.build("heap", "-g", *options)
                 for part in parts:
-                    self.run_counted(heap, part, "watched", least=100)
+                    self.run_counted(heap, part, "watched", stdout=r"(?s:.*)", least=100)
 
     @needs_command("valgrind")
     def test_valgrind(self):

@@ -41,7 +41,7 @@ class Memory(LibraryCase):
     # purged, or that counts 48 for each node.
     def test_memory(self):
         """What a handle is said to take is near what the C library's allocator gives for it."""
-        self.run_counted(self.build("memory"), stdout=r"(.+\n){49}", least=49)
+        self.run_counted(self.build("memory"), stdout=r"(.+\n){49}", least=40)
 
 
 @needs_command("make")

@@ -45,7 +45,11 @@ class Concurrent(LibraryCase):
     def test_whole(self):
         """All parts, one after another, on the tables that the ones before leave."""
         self.varies()
-        self.run_counted(self.build("concurrent", "-DYARIB_CHECK"), least=1000)
+        options = ADDRESS * has_options(*ADDRESS)
+        for name, made in (("with checks", self.build("concurrent", "-DYARIB_CHECK")),
+                           ("address", self.build("concurrent", *options, libraries=(None, bare(*options))))):
+            with self.subTest(name):
+                self.run_counted(made, least=1000)
 
     def test_refused(self):
         options = ADDRESS * has_options(*ADDRESS)

@@ -22,6 +22,9 @@ from dev.rust_sources import Source
 from dev.statements import clauses
 from dev.testing import TestCase, call, needs_command
 
+# It calls the prover.
+PROVED = True
+
 MUTANTS_SCRIPT = TOP / "dev/mutants/mutants"
 SOURCE = """\
 //! A number twice, and four times.
@@ -303,8 +306,8 @@ class Lists(TestCase):
     def test_list_prints_each_name_once(self):
         for name in ("mutants", "definitions"):
             with self.subTest(name):
-                listed = call([TOP / "dev/mutants" / name, "--list"]).stdout.split()
-                headings = [f"{crate}:{heading}" for crate in all_crates()
+                listed = call([TOP / "dev/mutants" / name, "--list"]).stdout.splitlines()
+                headings = [f"{name[:-1]} {crate}/{heading}" for crate in all_crates()
                             for file in CRATES.glob(f"{crate}/must-fail/{name}.md")
                             for heading in re.findall(r"^## (.*)", file.read_text(), re.M)]
                 self.assertEqual(sorted(listed), sorted(headings))

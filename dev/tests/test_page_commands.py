@@ -8,7 +8,7 @@ NEEDS = {"program"}
 class Commands(Rules):
     def test_program_prints_what_pages_show(self):
         found = list(calls())
-        self.assertGreater(len(found), 20)
+        self.assertGreater(len(found), 10)
         self.assert_none(fault for one in found for fault in self.faults(*one))
 
     def faults(self, page, words, output):

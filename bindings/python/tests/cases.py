@@ -129,7 +129,7 @@ class PythonCase(TestCase):
 
 
 class Limited(PythonCase):
-    """A test that takes over a minute of processor time fails: a call that never ends is a failure, too."""
+    """A test that takes over 10 seconds of processor time fails: a call that never ends is a failure, too."""
 
     def setUp(self):
         super().setUp()
@@ -139,7 +139,11 @@ class Limited(PythonCase):
 
         self.addCleanup(signal.signal, signal.SIGVTALRM, signal.signal(signal.SIGVTALRM, ended))
         self.addCleanup(signal.setitimer, signal.ITIMER_VIRTUAL, 0)
-        signal.setitimer(signal.ITIMER_VIRTUAL, 60)
+        self.limit_time()
+
+    def limit_time(self):
+        """Gives the test 10 seconds of processor time from now on."""
+        signal.setitimer(signal.ITIMER_VIRTUAL, 10)
 
     def assert_same(self, found, wanted):
         """Compares types, too: 0 is not False, and a route is not a tuple of its fields."""

@@ -53,6 +53,7 @@ class Calls(Limited):
 
     def test_each_call_answers_as_the_model(self):
         for at, ((_, limit), lines) in enumerate(sections("table")):
+            self.limit_time()
             draw, table, entries = Drawn(at), yarib.Table(int(limit), journal=at % 2 == 0), []
             if at % 8 == 3:
                 table.fib_attach()
@@ -66,6 +67,7 @@ class Calls(Limited):
 
     def test_each_call_of_a_concurrent_table_answers_as_the_model(self):
         for at, ((_, limit), lines) in enumerate(sections("table")[2:6]):
+            self.limit_time()
             draw, table = Drawn(at), yarib.ConcurrentTable(int(limit))
             if at == 1:
                 table.fib_attach()
@@ -106,6 +108,7 @@ class Calls(Limited):
     def test_many_commands_in_one_call(self):
         """Then the calls that read, which are last in a section."""
         for at, ((_, limit), lines) in enumerate(sections("table")):
+            self.limit_time()
             draw, table = Drawn(100 + at), yarib.Table(int(limit), journal=at % 2 == 1)
             last = max(k for k, (call, _) in enumerate(lines) if call[0] in ("apply", "put"))
             changing = [line for line in lines[:last + 1] if line[0][0] in ("apply", "put")]

@@ -1,9 +1,7 @@
 """Python's binding in daemons: signals, forks, sandboxes and other threads."""
 import array
-import ctypes
 import os
 import signal
-import sys
 import textwrap
 import threading
 import time
@@ -11,7 +9,7 @@ from unittest import mock
 
 import yarib
 from yarib import _library as c
-from .cases import PythonCase, in_process, route
+from .cases import PythonCase, in_process
 
 NEEDS = {"library"}
 
@@ -39,7 +37,7 @@ class Daemons(PythonCase):
             try:
                 with mock.patch.object(c.time, "sleep", pause):
                     table._change(lambda *words: busy[0] if busy else call(*words), table._at,
-                                  yarib._tables.command_of(1, "add", "11.0.0.0/8", 0, 1), yarib._tables.Room().at)
+                                  yarib._values.command_of(1, "add", "11.0.0.0/8", 0, 1), yarib._library.Room().at)
             finally:
                 signal.alarm(0)
                 signal.signal(signal.SIGUSR1, old)

@@ -56,7 +56,7 @@ class Threads(PythonCase):
 
     def test_they_meet_without_the_global_lock(self):
         """Every call lets other threads run, as all do in a Python that has no such lock."""
-        handle, freed = yarib._tables.Handle, yarib._tables.freed
+        handle, freed = yarib._handles.Handle, yarib._library.freed
         kept = handle._held, handle._changing
         handle._held = handle._changing = freed
         try:
@@ -89,8 +89,9 @@ class Threads(PythonCase):
                     return status
                 return call
 
-        tables, kept = yarib._tables, (yarib._tables.held, yarib._tables.Handle._held, yarib._tables.Handle._changing)
-        tables.held = tables.Handle._held = tables.Handle._changing = Interrupted(kept[0])
+        values, handle = yarib._values, yarib._handles.Handle
+        kept = values.held, handle._held, handle._changing
+        values.held = handle._held = handle._changing = Interrupted(kept[0])
         try:
             table.add("12.0.0.0/8", via="192.0.2.1")
             found = [table.look_up("12.0.0.1"), table.look_up(12 << 24), table.get("12.0.0.0/8"), table["12.0.0.1"],
@@ -98,7 +99,7 @@ class Threads(PythonCase):
             self.assertEqual(found, [route("12.0.0.0/8", 1, 0, "192.0.2.1")] * 5)
             self.assertEqual((table.apply(1, "purge").count, table.get("12.0.0.0/8"), table.look_up("12.0.0.1")), (3, None, None))
         finally:
-            tables.held, tables.Handle._held, tables.Handle._changing = kept
+            values.held, handle._held, handle._changing = kept
 
     def test_they_read_one_published_table(self):
         """All answers of a call are from one published table, the last one or a later one, and no reader waits or fails."""

@@ -22,10 +22,10 @@ from ._library import (
     FIRST_ROUTER, MAX_FEED, MAX_LENGTH, MAX_LIMIT, NUMBER_DISCARD, NUMBER_NO_ROUTE, STATUS, VERSION, Error, Invalid, OutOfMemory,
     Refused, build,
 )
-from ._tables import (
-    Answers, Change, ConcurrentTable, Difference, Entry, Exists, Fib, Full, Missing, Outcome, Route, Source, Table, View, prefix_of,
-    address_of,
-)
+from ._handles import Answers, View
+from ._sources import Source
+from ._tables import ConcurrentTable, Fib, Table
+from ._values import Change, Difference, Entry, Exists, Full, Missing, Outcome, Route, address_of, prefix_of
 
 __version__ = VERSION
 __all__ = [

@@ -1,0 +1,14 @@
+"""Tries the mutants of readers.c, copies.c of the C layer."""
+from bindings.tests.mutants import add_mutants
+from bindings.tests.mutants_of_c import CMutants
+
+NEEDS = {"library"}
+PROVED = True
+
+
+class Mutants(CMutants):
+    pass
+
+
+add_mutants(Mutants, "c", r"readers\.c|copies\.c")
+del CMutants

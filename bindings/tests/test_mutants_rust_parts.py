@@ -1,0 +1,14 @@
+"""Tries the mutants of Rust's binding in the other modules."""
+from bindings.tests.mutants import add_mutants
+from bindings.tests.mutants_of_rust import RustMutants
+
+NEEDS = {"library"}
+PROVED = True
+
+
+class Mutants(RustMutants):
+    pass
+
+
+add_mutants(Mutants, "rust", r"src/(?!lib)\w+\.rs")
+del RustMutants
