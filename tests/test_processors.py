@@ -1,7 +1,7 @@
 """Queries and comparisons of 64 files on 1, 16 and 64 processors, most of which aren't there: all print the same.
 
-The machine's processors decide how many tables a query has. On four there are at most four, and no other test would notice
-a union of tables that refuses its tenth table."""
+The machine's processors decide how many tables a query has. On four there are at most four, and no other test would
+notice a union of tables that refuses its tenth table."""
 import random
 import tempfile
 import unittest
@@ -71,13 +71,14 @@ class Processors(ProgramCase):
     def ended_on(self, processors, words):
         """Returns how a call ends on this many processors, and how many threads it starts."""
         with tempfile.TemporaryFile() as threads:
-            env = self.preloaded("tests/processors.c") | {"PROCESSORS": str(processors), "THREADS_TO": str(threads.fileno())}
-            ended = self.yarib(*words.split(), env=env, pass_fds=[threads.fileno()])
+            settings = {"PROCESSORS": str(processors), "THREADS_TO": str(threads.fileno())}
+            ended = self.yarib(*words.split(), env=self.preloaded("tests/processors.c") | settings,
+                               pass_fds=[threads.fileno()])
             return ended, threads.tell()
 
     def assert_same(self, words):
-        """Compares a call on more processors with that on one, which starts no thread, and its threads with the shares: each
-        share of the files has a table."""
+        """Compares a call on more processors with that on one, which starts no thread, and its threads with the shares:
+        each share of the files has a table."""
         self.write(self.files)
         wanted, threads = self.ended_on(1, words)
         self.assertEqual((threads, wanted.stderr), (0, ""))

@@ -3,9 +3,9 @@
 The calls are those of bench/benches/src/growth.rt.in: the lock, the shared table, and feeds on gates. After a refusal
 the lock's value is back, the outcomes and the table are as before, and the commands that a gate got are a beginning of
 the feed's. Each is called with its first request refused, then with its second, and so on until a call meets no
-refusal, and once more with all requests after the refused one refused as well. Each must have met its kinds of refusal. The
-program is built without proofs, and without the sanitizer of other unproved programs, which has its own memory; YARIB_BENCHES
-can name a proved one. tests/test_refused_growth.py refuses requests of `yarib` itself."""
+refusal, and once more with all requests after the refused one refused as well. Each must have met its kinds of refusal.
+The program is built without proofs, and without the sanitizer of other unproved programs, which has its own memory;
+YARIB_BENCHES can name a proved one. tests/test_refused_growth.py refuses requests of `yarib` itself."""
 import collections
 import functools
 import os
@@ -13,7 +13,7 @@ import pathlib
 import re
 import tempfile
 
-from dev.checks import unproved_benches
+from bench.programs import unproved_benches
 from dev.models.table_model import Table, dotted, shown
 from dev.testing import needs_command
 from tests.refusing import RefusedCase, agree
@@ -23,7 +23,8 @@ OF_A_FEED = {"run_feed", "a command of a feed"}
 KINDS = {
     "lock": {"TreeLock::new"},
     "table": {"SharedRib::new", "SharedRib::apply_batch", "SharedRib::routes", "a command of a batch", "Book::reserve",
-              "Book::routes"} | {f"SharedRib::apply {name}" for name in ("Add", "Replace", "Withdraw", "Lookup", "Dump", "Purge")},
+              "Book::routes", *(f"SharedRib::apply {name}" for name in (
+                  "Add", "Replace", "Withdraw", "Lookup", "Dump", "Purge"))},
     "feed": OF_A_FEED,
     "feeds": OF_A_FEED | {"run_feeds"},
 }
@@ -237,6 +238,10 @@ class Calls(RefusedCase):
     def assert_call(self, word, check):
         self.assert_each_refused(["growth", word], check_crate(check), command=benches()[0])
         self.assertEqual(self.kinds, KINDS[word])
+
+    def test_the_benches(self):
+        """No renaming in a library breaks the program of the benches unseen."""
+        self.assert_ended(self.call(benches()[0], "fib", "500"), None)
 
     def test_the_lock(self):
         self.assert_call("lock", check_lock)

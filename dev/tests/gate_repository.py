@@ -7,12 +7,11 @@ import json
 import os
 import pathlib
 import shutil
-import signal
 import subprocess
 import tempfile
 
 from dev.crates import TOP
-from dev.testing import TestCase, call, needs_command
+from dev.testing import TestCase, call, environment, needs_command
 
 # The modules of tests, with their constants.
 MODULES = {"dev.tests.test_pages": "", "dev.tests.test_build": "", "tests.test_rows": 'NEEDS = {"program"}',
@@ -111,12 +110,6 @@ echo "20 passed, 0 failed"
 """
 
 
-def heed_signals():
-    """Undoes that whoever started the tests in the background had them ignore signals, which a shell can't."""
-    for number in (signal.SIGINT, signal.SIGHUP):
-        signal.signal(number, signal.SIG_DFL)
-
-
 class Repository:
     """A repository of git with ./test and stubs, in a directory that has the temporary files of its runs too."""
 
@@ -162,7 +155,7 @@ class Repository:
                               stdout=subprocess.PIPE, text=True).stdout.strip()
 
     def environment(self, breaks="", **more):
-        return os.environ | {"PATH": f"{self.folder}/bin:{os.environ['PATH']}", "BREAKS": breaks, "TMPDIR": str(self.work),
+        return environment() | {"PATH": f"{self.folder}/bin:{os.environ['PATH']}", "BREAKS": breaks, "TMPDIR": str(self.work),
                              "NOTES": str(self.notes), "RT_JOBS": "1"} | more
 
     def test(self, *words, breaks="", by="test", **more):
