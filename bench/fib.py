@@ -19,7 +19,7 @@ import tempfile
 sys.path[0] = str(pathlib.Path(__file__).resolve().parents[1])
 from bench import results
 from bench.others import built_lpm, drawn, has_patricia, patricia_rows, printed, radix_rows, write_input
-from bench.programs import built_benches, built_peer
+from bench.programs import built_benches, built_peer, told
 from dev.crates import TOP
 
 ASKED = 1 << 20
@@ -29,18 +29,9 @@ READERS, TURNS, COMMANDS = 2, 20, 100  # a turn of the writer takes a tenth of a
 WHO = ("Rattle", "C", "Rust", "book", "rte_lpm", "py-radix", "Net::Patricia")
 
 
-def told(words):
-    """The figures that a program prints, by name."""
-    ended = subprocess.run(words, capture_output=True, text=True)
-    if ended.returncode != 0:
-        sys.exit(f"bench/fib.py: {words[0]} ended with status {ended.returncode}\n{ended.stderr}")
-    said = (ended.stdout + ended.stderr).split()
-    return {name: int(value) for name, value in zip(said[::2], said[1::2])}
-
-
 def rattle_rows(benches, prefixes):
     """The rows of the forwarding table and of its book, by program and call, and the sums of the answers of look-ups."""
-    said = told([benches, "fib", str(prefixes), str(ASKED)])
+    said = told([benches, "fib", prefixes, ASKED])
     found = {("Rattle", "new"): said["new"] / prefixes, ("book", "new"): said["load"] / prefixes}
     found["Rattle", "memory"] = said["memory"] / 1e6
     for length in (24, 16, 8):
@@ -58,7 +49,7 @@ def reader_rows(benches, prefixes):
     """The time of one of the readers for an address, without and with the writer."""
     found = {}
     for kind, commands in (("alone", 0), ("beside", COMMANDS)):
-        said = told([benches, "readers", *map(str, (prefixes, READERS, TURNS, commands))])
+        said = told([benches, "readers", prefixes, READERS, TURNS, commands])
         found["Rattle", f"reader {kind}"] = said["passed"] * READERS / said["asked"]
         if said["passed"] > TURNS * 1.1e8:
             print(f"{prefixes:9} the writer took {said['passed'] / TURNS / 1e9:.2f} seconds a turn", flush=True)

@@ -22,7 +22,7 @@ import tempfile
 sys.path[0] = str(pathlib.Path(__file__).resolve().parents[1])
 from bench import results
 from bench.others import built_lpm, call_each, drawn, each, has_patricia, patricia_rows, printed, radix_rows, write_input
-from bench.programs import built_benches
+from bench.programs import built_benches, told
 from dev.crates import TOP
 from dev.models.table_model import dotted
 
@@ -62,17 +62,12 @@ def python_rows(yarib, pairs, asked):
 
 def rattle_rows(benches, prefixes):
     """The rows of the same calls in Rattle, by the program bench/benches, which draws the same."""
-    ended = subprocess.run([benches, "fib", str(prefixes), str(ASKED)], capture_output=True, text=True)
-    if ended.returncode != 0:
-        sys.exit(f"bench/library.py: bench/benches ended with status {ended.returncode}\n{ended.stderr}")
-    words = ended.stderr.split()
-    told = {name: int(value) for name, value in zip(words[::2], words[1::2])}
-    yield "apply_journaled", told["load"] / prefixes
-    yield "forward", told["new"] / prefixes
+    said = told([benches, "fib", prefixes, ASKED])
+    yield "apply_journaled", said["load"] / prefixes
+    yield "forward", said["new"] / prefixes
     for which, call in (("book_look_up", "look_up_1"), ("book_look_up_each", "look_up_256"),
-                        ("look_up", "forwarding_1"),
-                        ("look_up_each", "forwarding_256")):
-        yield call, told[f"random_{which}"] / ASKED
+                        ("look_up", "forwarding_1"), ("look_up_each", "forwarding_256")):
+        yield call, said[f"random_{which}"] / ASKED
 
 
 def built(folder):

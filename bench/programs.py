@@ -22,6 +22,15 @@ def built_peer(folder, source):
     return folder / "peer"
 
 
+def told(words):
+    """Returns the figures that a program prints, by name; it has to end with status 0."""
+    ended = subprocess.run(list(map(str, words)), capture_output=True, text=True)
+    if ended.returncode != 0:
+        sys.exit(f"{sys.argv[0]}: {words[0]} ended with status {ended.returncode}\n{ended.stderr}")
+    printed = (ended.stdout + ended.stderr).split()
+    return {name: int(value) for name, value in zip(printed[::2], printed[1::2])}
+
+
 def lay_out_benches(room):
     """Copies bench/benches and the crates that it uses into the directory, and returns the crate's directory."""
     lines = (TOP / "bench/benches/crates.txt.in").read_text().splitlines()

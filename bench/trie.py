@@ -9,28 +9,18 @@ walk that removes one of a thousand, for each prefix. Then it prints the trie's 
 each prefix the plain one allocated.
 """
 import pathlib
-import subprocess
 import sys
 import tempfile
 
 sys.path[0] = str(pathlib.Path(__file__).resolve().parents[1])
 from bench import results
-from bench.programs import built_benches, built_peer
-
-
-def timed(program, prefixes):
-    """The figures that a program prints, by name."""
-    run = subprocess.run([*program, str(prefixes)], capture_output=True, text=True)
-    if run.returncode != 0:
-        sys.exit(f"bench/trie.py: {program} ended with status {run.returncode}")
-    words = run.stderr.split()
-    return {name: int(value) for name, value in zip(words[::2], words[1::2])}
+from bench.programs import built_benches, built_peer, told
 
 
 def compare(programs, prefixes, rounds):
     """Runs both in turn with this number of prefixes, prints a row for each call with its minimum times, and returns
     the rows."""
-    runs = [[timed(program, prefixes) for program in programs] for _ in range(rounds)]
+    runs = [[told([*program, prefixes]) for program in programs] for _ in range(rounds)]
     proved, plain = runs[0]
     for agreed in ("prefixes", "found", "kept", "left"):
         if proved[agreed] != plain[agreed]:

@@ -20,8 +20,8 @@ def printable(text):
 
 
 class ProgramCase(TestCase):
-    """Calls of the program in a directory with `row.feed`, `empty.feed` and `faulty.feed`. Each comparison of a call is a
-    subTest, which has the call's words as its name if it is given none."""
+    """Calls of the program in a directory with `row.feed`, `empty.feed` and `faulty.feed`. Each comparison of a call is
+    a subTest, which has the call's words as its name if it is given none."""
 
     def setUp(self):
         self.names = {}
@@ -47,7 +47,7 @@ class ProgramCase(TestCase):
         self.assert_refused(words, f"cannot read {file}", 4, **settings)
 
     def assert_misused(self, words, *parts, name=None):
-        """Fails unless the command line is refused by a message of the library that parses it, which has these parts."""
+        """Fails unless the library that parses the command line refuses it by a message with these parts."""
         words = words_of(words)
         with self.named(name or shlex.join(words)):
             ended = self.yarib(*words)
@@ -81,8 +81,8 @@ class ProgramCase(TestCase):
         return ended.stdout
 
     def random_feeds(self, choice, paths, draw, count):
-        """Writes random feeds to these paths, each with at most `count` of the routes that `draw` returns, and returns their
-        table. No feed adds a route that exists."""
+        """Writes random feeds to these paths, each with at most `count` of the routes that `draw` returns, and returns
+        their table. No feed adds a route that exists."""
         model = Table(1_000_000)
         for feed, path in enumerate(paths, 1):
             lines = [f"add {draw(choice)}" for _ in range(count)]

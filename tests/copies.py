@@ -3,6 +3,7 @@ import os
 import pathlib
 import re
 import shutil
+import subprocess
 import tempfile
 
 from dev.build.built import product, put
@@ -61,6 +62,9 @@ class CopyCase(TestCase):
     """A test with a copy of the repository, `self.copy`. The tests of a class share it: one that changes a copy makes its
     own. A call doesn't depend on the caller's environment."""
 
+    kind = []  # what ./install is called with before the prefix
+    environment = environment()
+
     @classmethod
     def setUpClass(cls):
         made = tempfile.TemporaryDirectory(prefix="yarib-test-")
@@ -72,11 +76,23 @@ class CopyCase(TestCase):
         self.write({"row.feed": ROW})
 
     def call(self, *command, **settings):
-        return super().call(*command, **{"env": environment()} | settings)
+        return super().call(*command, **{"env": self.environment} | settings)
 
     def install(self, *words, **settings):
         """Calls ./install, and returns how it ended."""
-        return self.call(self.copy / "install", *words, **settings)
+        return self.call(self.copy / "install", *self.kind, *words, **settings)
+
+    def assert_refused(self, prefix):
+        """Fails unless ./install refuses a prefix in one line, and makes nothing there."""
+        ended = self.install(prefix)
+        self.assert_ended(ended, stderr=None, returncode=2)
+        self.assertEqual((len(ended.stderr.splitlines()), pathlib.Path(str(prefix).strip()).exists()), (1, False))
+
+    def assert_installed_at_once(self, count, prefix):
+        """Fails unless this number of calls of ./install at once end well."""
+        calls = [subprocess.Popen([self.copy / "install", *self.kind, prefix], stdout=subprocess.DEVNULL, stderr=subprocess.PIPE,
+                                  env=self.environment) for _ in range(count)]
+        self.assertEqual({(one.communicate()[1], one.returncode) for one in calls}, {(b"", 0)})
 
     def own_copy(self):
         """Gives the test a copy of its own, with its program as `yarib` next to it."""

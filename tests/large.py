@@ -2,34 +2,40 @@
 """Runs `yarib` on very long texts and full Internet tables, and prints the time and memory for each line, byte or
 route.
 
-tests/large.py [PROGRAM [CASE..]], or --list for the names of the cases. Takes some minutes, and up to 8 GB of memory.
-It runs texts of 1 to 10 million lines, lines of 100 MB to 1 GB, and the tables of 1, 8 and 32 peers with 1,050,000
-routes each. The script convert/bgpdump-to-feeds makes these tables from a dump. Each best route is compared with the
-choice by BGP's rules, and the answers to 20,000 addresses with a plain longest match. It is called like the benchmarks,
-with --store and --default-memory.
+It is run by hand: it takes some minutes, and up to 8 GB of memory. It runs texts of 1 to 10 million lines, lines of 100 MB to
+1 GB, and the tables of 1, 8 and 32 peers with 1,050,000 routes each. The script convert/bgpdump-to-feeds makes these tables
+from a dump. Each best route is compared with the choice by BGP's rules, and the answers to 20,000 addresses with a plain
+longest match. It is called like the benchmarks, with --store and --default-memory.
 """
-import sys
 import itertools
 import os
 import pathlib
 import random
 import subprocess
+import sys
 import tempfile
 
-sys.path.insert(1, str(pathlib.Path(__file__).resolve().parents[1]))
+sys.path[0] = str(pathlib.Path(__file__).resolve().parents[1])
 from bench import results
+from bench.programs import built
 from bench.timing import taken
-from dev import checks
 from dev.crates import TOP
 from dev.models.inputs import real_prefixes, write_apart
 from dev.models.table_model import dotted
-from texts import AGAIN
+from dev.testing import call
+from tests.texts import AGAIN
 
 ROWS = []
 CONVERTER = TOP / "convert/bgpdump-to-feeds"
 PEERS, ROUTES, ADDRESSES = (1, 8, 32), 1_050_000, 20_000
 DUMPED = "TABLE_DUMP2|1|B|127.0.0.{0}|{0}|{1}|{2}|IGP|192.0.2.{0}|0|0||NAG||\n"
 PATHS = [" ".join(["1"] * length) for length in range(1, 6)]
+
+
+def require(name, found, wanted):
+    """Ends the script with an error if something isn't as expected."""
+    if found != wanted:
+        sys.exit(f"tests/large.py: {name}: {found!r} in place of {wanted!r}")
 
 
 def measured(words):
@@ -53,7 +59,7 @@ def many_lines(program):
     for millions in (1, 2, 5, 10):
         write_apart("long.feed", itertools.repeat(AGAIN * 25_000, 10 * millions))
         seconds, peak, status, end = measured([program, "run", "--batch", "256", "long.feed"])
-        checks.expect(f"{millions} million lines", (status, end[-8:]), (0, "table 0\n"))
+        require(f"{millions} million lines", (status, end[-8:]), (0, "table 0\n"))
         add_row(f"{millions} million lines", "line", millions * 1_000_000, seconds, peak)
 
 
@@ -61,7 +67,7 @@ def long_lines(program):
     for megabytes in (100, 200, 500, 1_000):
         write_apart("long.feed", itertools.repeat("x" * 1_000_000, megabytes))
         seconds, peak, status, end = measured([program, "run", "long.feed"])
-        checks.expect(f"a line of {megabytes} MB", (status, end), (2, "1:1 fault E8\ntable 0\n"))
+        require(f"a line of {megabytes} MB", (status, end), (2, "1:1 fault E8\ntable 0\n"))
         add_row(f"a line of {megabytes} MB", "byte", megabytes * 1_000_000, seconds, peak)
 
 
@@ -89,8 +95,8 @@ def converted(prefixes, peers):
     with subprocess.Popen([CONVERTER, folder], stdin=subprocess.PIPE, stderr=subprocess.PIPE, text=True) as converter:
         with converter.stdin as given:
             given.writelines(dump(prefixes, peers))
-        said = converter.stderr.read()
-    checks.expect(f"{peers} peers are converted: {said}", converter.returncode, 0)
+        stderr = converter.stderr.read()
+    require(f"{peers} peers are converted: {stderr}", converter.returncode, 0)
     return sorted(folder.glob("*.feed"))
 
 
@@ -105,7 +111,7 @@ def full_tables(program):
             output.seek(0)
             differing = sum(1 for line, (base, length), hop in itertools.zip_longest(output, prefixes, best)
                             if (line.split()[0], line.split()[-1]) != (f"{dotted(base)}/{length}", hop))
-        checks.expect(f"status and differing routes of {peers} peers", (child.returncode, differing), (0, 0))
+        require(f"status and differing routes of {peers} peers", (child.returncode, differing), (0, 0))
         add_row(f"{peers} full tables", "route", peers * len(prefixes), seconds, usage.ru_maxrss * 1024)
         compare_look_ups(program, feeds, dict(zip(prefixes, best)), peers)
 
@@ -122,20 +128,30 @@ def compare_look_ups(program, feeds, table, peers):
     draw = random.Random(70)
     addresses = [draw.getrandbits(32) for _ in range(ADDRESSES)]
     write_apart("addresses.txt", (f"{dotted(address)}\n" for address in addresses))
-    _, written, _ = program("lookup", "--addresses", "addresses.txt", *feeds)
-    found = [line.split()[-1] for line in written.splitlines()]
+    ended = call([program, "lookup", "--addresses", "addresses.txt", *feeds])
+    found = [line.split()[-1] for line in ended.stdout.splitlines()]
     # the last word of `no route`
-    checks.expect(f"look-ups in {peers} tables", found, [longest_match(table, address) for address in addresses])
+    require(f"look-ups in {peers} tables", found, [longest_match(table, address) for address in addresses])
 
 
-CASES = [many_lines, long_lines, full_tables]
+CASES = {case.__name__: case for case in (many_lines, long_lines, full_tables)}
 
 
 def main():
-    words = results.begun(checks.chosen(__doc__, CASES, flags=("--store", "--default-memory")))
-    checks.run_each(words.cases, words.program)
+    parser = results.reader(__doc__)
+    parser.add_argument("program", nargs="?", type=lambda word: pathlib.Path(word).resolve(), help="default: it is built first")
+    parser.add_argument("cases", nargs="*", metavar="CASE", help=f"default: {', '.join(CASES)}")
+    args = parser.parse_args()
+    if unknown := set(args.cases) - set(CASES):
+        parser.error(f"no case {', '.join(sorted(unknown))}")
+    results.begun(args)
+    program = args.program or built()
+    for name in args.cases or CASES:
+        with tempfile.TemporaryDirectory(prefix="yarib-large-") as folder:
+            os.chdir(folder)
+            CASES[name](program)
+            os.chdir("/")
     results.keep("large", 1, ROWS)
-    checks.end()
 
 
 if __name__ == "__main__":

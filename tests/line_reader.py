@@ -1,5 +1,5 @@
-"""A plain reader of lines, written from docs/FORMATS.md, which shares no code with the program's. If it accepts a line as a
-command, other lines are put around it, and their answers show everything that the program read in that line."""
+"""A plain reader of lines, written from docs/FORMATS.md, which shares no code with the program's. If it accepts a line
+as a command, other lines are put around it, and their answers show everything that the program read in that line."""
 import re
 
 from dev.models.table_model import command_of, route_text
@@ -54,7 +54,8 @@ def hop_fault(text, version):
 
 OFFER_FAULTS = (prefix_fault, preference_fault, hop_fault)
 FIELD_FAULTS = {
-    "add": OFFER_FAULTS, "replace": OFFER_FAULTS, "withdraw": (prefix_fault,), "lookup": (address_fault,), "dump": (), "purge": (),
+    "add": OFFER_FAULTS, "replace": OFFER_FAULTS, "withdraw": (prefix_fault,), "lookup": (address_fault,), "dump": (),
+    "purge": (),
 }
 
 
@@ -72,8 +73,9 @@ def around(command):
     name, *fields = command
     if name in ("add", "replace"):
         prefix, *offer = fields
+        before, answer = ([], "added") if name == "add" else ([added(prefix)], "replaced")
         found = f"lookup {prefix.split('/')[0]}", f"route {route_text(prefix, 1, *offer)}"
-        return ([], "added", [found, withdrawn(prefix)]) if name == "add" else ([added(prefix)], "replaced", [found, withdrawn(prefix)])
+        return before, answer, [found, withdrawn(prefix)]
     if name == "withdraw":
         return [added(fields[0])], "withdrawn", [("dump", "dumped 0")]
     if name == "lookup":

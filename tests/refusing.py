@@ -4,11 +4,19 @@ import itertools
 import os
 import re
 
+from dev.models.table_model import run_text
 from dev.testing import TestCase, environment, program
 
 # How a call ended, whether one of its requests was refused, and the number of threads that it wasn't given.
 Ending = collections.namedtuple("Ending", "returncode stdout stderr refused threads")
 OUT_OF_MEMORY = (5, "", "yarib: fault F3\n")
+SIX_COMMANDS = """add 10.0.0.0/8 10 192.0.2.1
+add 10.1.0.0/16 10 192.0.2.2
+add 10.2.0.0/16 10 192.0.2.3
+withdraw 10.1.0.0/16
+lookup 10.1.2.3
+dump
+"""
 
 
 class Wrong(Exception):
@@ -85,3 +93,29 @@ def check_shown(ending, ample, kinds):
     reported = re.search(r"^yarib: .*: commands failed, out of memory: [1-9]\d*$", ending.stderr, re.M)
     agree(reported is not None, True, "that refused commands are reported")
     kinds.add("a command of a look-up or list")
+
+
+def check_run(texts):
+    """A run of the program over these texts. The replies to a text don't depend on the other feeds."""
+    faulty = 2 if any("frob" in text for text in texts) else 0
+
+    def compare(ending, ample, kinds):
+        if ending[:3] == OUT_OF_MEMORY:
+            kinds.add("run_texts")
+            return
+        agree(ending.stderr, "", "standard error")
+        refused = {tuple(map(int, pair)) for pair in re.findall(r"^(\d+):(\d+) refused$", ending.stdout, re.MULTILINE)}
+        agree(ending.returncode, 5 if refused else faulty, "the status")
+        agree(ending.stdout, run_text(texts, refused), "the run's text")
+        if refused:
+            kinds.add("a line of a run")
+
+    return compare
+
+
+def check_same(ending, ample, kinds):
+    """A call of the program that has all or nothing."""
+    if (ending.returncode, ending.stdout) == (5, "") and ending.stderr in ("yarib: fault F3\n", "yarib: fault P3\n"):
+        kinds.add(ending.stderr[7:-1])
+        return
+    agree(ending[:3], ample[:3], "all of it")

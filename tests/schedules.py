@@ -1,4 +1,4 @@
-"""Runs the program under a schedule that tests/schedule.c makes, so that other work on the machine doesn't change the result."""
+"""Runs the program under a schedule that tests/schedule.c makes, so that other work on the machine changes nothing."""
 import struct
 import tempfile
 
@@ -12,7 +12,7 @@ def loaded(case, **settings):
 
 
 def size_of_route(case):
-    """Returns the size that each `add` allocates once while it holds the lock, and that is rarely allocated elsewhere."""
+    """Returns the size that each `add` allocates once while it holds the lock, and that is rare elsewhere."""
     case.write({"routes.feed": "".join(f"add 10.{k >> 8}.{k & 255}.0/24 1 192.0.2.1\n" for k in range(ROUTES))})
     with tempfile.TemporaryFile() as kept:
         kept.truncate(4 * SIZES)
@@ -24,5 +24,5 @@ def size_of_route(case):
 
 
 def in_turns(case, *words):
-    """Runs two files of a test: each `add` of the second file holds the lock until the first file waits for the lock."""
+    """Runs two files of a test: each `add` of the second holds the lock until the first file waits for the lock."""
     return case.yarib("run", *words, env=loaded(case, HOLD_SIZE=size_of_route(case)))

@@ -28,8 +28,8 @@ def named_route(choice):
 
 class DiffCase(ProgramCase):
     def random_sides(self, choice, count, discards=()):
-        """Writes two random tables, and returns both with the names of their files. In the first file of these sides some
-        routes discard."""
+        """Writes two random tables, and returns both with the names of their files. In the first file of these sides
+        some routes discard."""
         sides = {side: self.random_table(choice, side, count) for side in ("old", "new")}
         for side in discards:
             path = self.folder / sides[side][1][0]
@@ -55,14 +55,15 @@ class Ranges(DiffCase):
                 wanted = differences_text(old, new, by)
                 self.assert_prints(["diff", "--by", by, *of_both(old_names, new_names)], wanted, "", 1 if wanted else 0,
                                    name=f"by {by}, {number} routes")
-            self.assert_prints(["diff", *BY_ROUTE, *of_both(old_names, old_names)], name=f"with itself, {number} routes")
+            self.assert_prints(["diff", *BY_ROUTE, *of_both(old_names, old_names)], name=f"itself, {number} routes")
 
     def test_reports_and_refusals(self):
         self.write({"odd.feed": "frob\n" + ROW})
         report = f"yarib: odd.feed: faulty lines: 1, the first is line 1: {E1}\n"
         self.assert_prints("diff odd.feed -- row.feed odd.feed", "", report * 2, 2)
         for option in ("", "--json "):
-            self.assert_prints(f"diff {option}row.feed --" + " row.feed" * (MAX_FEEDS + 1), name=f"{option}too many files", **TOO_MANY)
+            words = f"diff {option}row.feed --" + " row.feed" * (MAX_FEEDS + 1)
+            self.assert_prints(words, name=f"{option}too many files", **TOO_MANY)
         self.assert_unreadable("diff missing -- row.feed", "missing")
         for words, part in (("row.feed", "<NEW>"), ("row.feed --", "<NEW>"), ("-- row.feed", "<OLD>"),
                             ("--by feed row.feed -- row.feed", "'feed'")):
@@ -82,7 +83,7 @@ def answer_object(text, files):
 class Json(DiffCase):
     # Catches a comparison that swaps old and new, or prints another last address of a range: `by hop`.
     def test_random_tables(self):
-        """Each range is one object with the contents of the same command's line, and for a feed its file on that side."""
+        """Each range is one object with what the same command's line has, and for a feed its file on that side."""
         choice = random.Random(63)
         for number in (1, 4, 9):
             (_, old), (_, new) = self.random_sides(choice, number, discards=("new",))
@@ -91,7 +92,8 @@ class Json(DiffCase):
                 wanted = []
                 for line in plain.stdout.splitlines():
                     first, last, was, now = re.fullmatch(r"(\S+)-(\S+) (.*) -> (.*)", line).groups()
-                    wanted.append({"first": first, "last": last, "old": answer_object(was, old), "new": answer_object(now, new)})
+                    answers = {"old": answer_object(was, old), "new": answer_object(now, new)}
+                    wanted.append({"first": first, "last": last} | answers)
                 with self.subTest(f"by {by}, {number} routes"):
                     ended = self.yarib("diff", "--json", "--by", by, *of_both(old, new))
                     self.assertEqual((ended.returncode, ended.stderr), (plain.returncode, ""))
@@ -99,8 +101,8 @@ class Json(DiffCase):
 
 
 class Prefixes(DiffCase):
-    # Catches a comparison that ignores `--prefixes`, or prints halves of a prefix, prefixes beyond the range, or too few:
-    # `--by hop`.
+    # Catches a comparison that ignores `--prefixes`, or prints halves of a prefix, prefixes beyond the range, or too
+    # few: `--by hop`.
     def test_random_tables(self):
         """Each range of the same command without --prefixes is the prefixes that Python's ipaddress makes of it."""
         choice = random.Random(88)
@@ -127,7 +129,7 @@ def as_prefixes(line):
 
 
 class Counts(DiffCase):
-    # Catches a range that is counted twice or not at all, the number of ranges in the place of that of addresses, a pair of
+    # Catches a range that is counted twice or not at all, the number of ranges in place of that of addresses, a pair of
     # next hops with two lines, another order of these, and another kind of change.
     def test_random_tables(self):
         """What Python counts in the lines of the same command without --count: all ranges, each kind of change and each
@@ -139,12 +141,13 @@ class Counts(DiffCase):
                 ranges = self.yarib("diff", *more, *of_both(old, new))
                 for form in ([], ["--json"]):
                     wanted = counts_of_changes(ranges.stdout, bool(form))
-                    self.assert_prints(["diff", "--count", *more, *form, *of_both(old, new)], wanted, "", ranges.returncode,
-                                       name=f"{' '.join([*more, *form, ''])}{number} routes")
+                    words = ["diff", "--count", *more, *form, *of_both(old, new)]
+                    name = f"{' '.join(words[1:-5])}, {number} routes"
+                    self.assert_prints(words, wanted, "", ranges.returncode, name=name)
 
     def test_options(self):
         for both in ("--count --prefixes", "--prefixes --json --count"):
-            self.assert_refused(f"diff {both} missing.feed -- missing.feed", "only one of --prefixes and --count may be given")
+            self.assert_refused(f"diff {both} missing -- missing", "only one of --prefixes and --count may be given")
         self.assert_misused("diff --count --count row.feed -- row.feed", "--count")
 
 
@@ -160,10 +163,13 @@ def counts_of_changes(lines, as_json):
             counts[key] = number + 1, size + last + 1 - first
     rows = [("", {}, tuple(map(sum, zip(*pairs.values()))) or (0, 0))]
     rows += [(f"change {kind} ", {"change": kind}, kinds[kind]) for kind in KINDS if kind in kinds]
-    rows += [(f"hops {' -> '.join(pair)} ", dict(zip(("old", "new"), (answer_object(hop, None) for hop in pair))), pairs[pair])
-             for pair in sorted(pairs, key=lambda pair: tuple(map(place_of, pair)))]
+    for pair in sorted(pairs, key=lambda pair: tuple(map(place_of, pair))):
+        old, new = pair
+        answers = {"old": answer_object(old, None), "new": answer_object(new, None)}
+        rows.append((f"hops {old} -> {new} ", answers, pairs[pair]))
     if as_json:
-        return "".join(json_text(start | {"ranges": number, "addresses": size}) + "\n" for _, start, (number, size) in rows)
+        return "".join(json_text(start | {"ranges": number, "addresses": size}) + "\n"
+                       for _, start, (number, size) in rows)
     return "".join(f"{start}ranges {number} addresses {size}\n" for start, _, (number, size) in rows)
 
 
@@ -190,8 +196,8 @@ def change_of(old, new):
 
 # Catches a comparison that pairs feeds by number instead of name: `a file that one side lacks`.
 class Names(DiffCase):
-    """Feeds whose files have another order on the other side, or are missing there: feeds with the same name are the same
-    feed."""
+    """Feeds whose files have another order on the other side, or are missing there: feeds with the same name are the
+    same feed."""
 
     def test_random_feeds(self):
         choice = random.Random(64)
@@ -204,8 +210,8 @@ class Names(DiffCase):
             (old, old_paths, old_names), (new, new_paths, new_names) = sides
             for by in ("hop", "route"):
                 wanted = differences_text(old, new, by, (old_names, new_names))
-                self.assert_prints(["diff", "--names", "--by", by, *of_both(old_paths, new_paths)], wanted, "", 1 if wanted else 0,
-                                   name=f"by {by}, {number} routes")
+                words = ["diff", "--names", "--by", by, *of_both(old_paths, new_paths)]
+                self.assert_prints(words, wanted, "", 1 if wanted else 0, name=f"by {by}, {number} routes")
 
     def write_three(self):
         for side in ("older", "newer"):
@@ -233,7 +239,7 @@ class Names(DiffCase):
     def test_refused_names(self):
         self.write({"older/one.feed": ROW, "newer/one.feed": ROW, "a b.feed": ROW})
         for side in ("older/one.feed newer/one.feed -- row.feed", "row.feed -- older/one.feed newer/one.feed"):
-            self.assert_refused(f"diff --names {side}", "two feeds with the same name (rename a file, or leave out --names): "
-                                "older/one.feed, newer/one.feed")
+            self.assert_refused(f"diff --names {side}", "two feeds with the same name (rename a file, or leave out "
+                                "--names): older/one.feed, newer/one.feed")
         self.assert_refused(["diff", "--names", "row.feed", "--", "a b.feed"],
                             "no valid feed name (rename the file, or leave out --names): a b.feed")

@@ -43,7 +43,8 @@ class LeftOut(ProgramCase):
         """Writes random feeds for a round, each with a faulty line, and draws which of them are left out."""
         self.choice = random.Random(f"left out {seed}")
         for feed in FEEDS:
-            self.write({f"left{feed}.feed": "".join(self.drawn_line(length) for length in self.choice.sample(range(33), 12)) + "frob\n"})
+            lines = [self.drawn_line(length) for length in self.choice.sample(range(33), 12)]
+            self.write({f"left{feed}.feed": "".join(lines) + "frob\n"})
         return self.choice.sample(FEEDS, self.choice.randrange(5))
 
     def drawn_line(self, length):
@@ -55,7 +56,7 @@ class LeftOut(ProgramCase):
         return [part for feed in feeds for part in (word, str(feed) if self.choice.randrange(2) else f"left{feed}")]
 
     def only(self, feeds, side=""):
-        """Returns the options that execute only these feeds: as the help spells them, in the earlier spelling, and in both."""
+        """Returns the options that execute only these feeds: as the help spells them, as it did before, and as both."""
         place = self.choice.randrange(len(feeds) + 1)
         spelled, earlier = f"--{side}only", f"--{side}feed"
         return [self.options(spelled, feeds), self.options(earlier, feeds),
@@ -64,7 +65,7 @@ class LeftOut(ProgramCase):
     def assert_same(self, words, wanted, name):
         """Compares a call whose left-out files are missing with what it prints for empty files."""
         with self.named(name):
-            self.assert_ended(self.yarib(*words), wanted.stdout, wanted.stderr, wanted.returncode, message=" ".join(words))
+            self.assertEqual(self.yarib(*words), wanted, " ".join(words))
 
     def assert_queries(self, seed):
         out = self.begin(seed)
@@ -72,14 +73,16 @@ class LeftOut(ProgramCase):
         for query in QUERIES:
             name = " ".join(word for word in query if word != "--address" and word not in ADDRESSES)
             wanted = self.yarib(*query, *placed(out, "empty"))
-            self.assert_same([*query, *self.options("--without", out), *placed(out, "missing")], wanted, f"{name} --without")
+            words = [*query, *self.options("--without", out), *placed(out, "missing")]
+            self.assert_same(words, wanted, f"{name} --without")
             if not kept:
                 continue
             for words in self.only(kept)[: 3 if query[0] == "lookup" else 1]:
                 self.assert_same([*query, *words, *placed(out, "missing")], wanted, f"{name} --only")
             most = self.choice.sample(kept, min(2, len(kept)))
-            words = [*query, *self.options("--only", most), *self.options("--without", out), *placed(others(most), "missing")]
-            self.assert_same(words, self.yarib(*query, *placed(others(most), "empty")), f"{name} --only --without")
+            words = [*self.options("--only", most), *self.options("--without", out), *placed(others(most), "missing")]
+            wanted = self.yarib(*query, *placed(others(most), "empty"))
+            self.assert_same([*query, *words], wanted, f"{name} --only --without")
 
     def assert_comparisons(self, seed):
         out, names = self.begin(seed), placed([], "")
@@ -88,11 +91,12 @@ class LeftOut(ProgramCase):
             name = " ".join(["diff", *more])
             wanted = self.yarib("diff", *more, *placed(out, "empty"), "--", *placed(lost, "empty"))
             for new in (self.options("--new-without", lost), *self.only(others(lost), "new-")):
-                self.assert_same(["diff", *more, *self.options("--old-without", out), *new, *placed(out, "missing"), "--",
-                                  *placed(lost, "missing")], wanted, f"{name}: both sides")
+                sides = [*placed(out, "missing"), "--", *placed(lost, "missing")]
+                words = ["diff", *more, *self.options("--old-without", out), *new, *sides]
+                self.assert_same(words, wanted, f"{name}: both")
             wanted = self.yarib("diff", *more, *placed(lost, "empty"), "--", *names)
             for old in self.only(others(lost), "old-"):
-                self.assert_same(["diff", *more, *old, *placed(lost, "missing"), "--", *names], wanted, f"{name}: old side")
+                self.assert_same(["diff", *more, *old, *placed(lost, "missing"), "--", *names], wanted, f"{name}: old")
 
 
 for number in range(1, 13):
@@ -104,13 +108,14 @@ for number in range(1, 13):
 # Catches a program that ignores all but the first `--feed`, or all but the last: `--feed 4 --feed 2`.
 # Catches `--only` that isn't applied together with `--feed`.
 class Selected(ProgramCase):
-    """`table --feed` selects routes of the table of all executed feeds, and with --best routes that are the best of these."""
+    """`table --feed` selects routes of the table of all executed feeds, with --best among the best of these."""
 
     def setUp(self):
         super().setUp()
         choice, self.files = random.Random(71), [f"of{feed}.feed" for feed in FEEDS]
         for name in self.files:
-            lines = [f"add 10.{place}.0.0/16 {choice.randrange(4)} 192.0.2.1\n" for place in choice.sample(range(20), 12)]
+            places = choice.sample(range(20), 12)
+            lines = [f"add 10.{place}.0.0/16 {choice.randrange(4)} 192.0.2.1\n" for place in places]
             self.write({name: "".join([*lines, "frob\n"])})
 
     def rows_of(self, ended, feeds):
@@ -139,7 +144,8 @@ class Selected(ProgramCase):
 
 MISSING = "missing/same.feed missing/other.feed"
 UNKNOWN = ("3", "0", str(MAX_FEEDS + 1), "-1", "4294967297", "sam", "same.feed", "missing/same", "SAME", "", " 1")
-AMBIGUOUS = [("same", "a/same.feed b/same.feed"), ("same", "same other same.feed"), ("2", "2.feed other.feed"), ("1", "other.feed 1")]
+AMBIGUOUS = [("same", "a/same.feed b/same.feed"), ("same", "same other same.feed"), ("2", "2.feed other.feed"),
+             ("1", "other.feed 1")]
 # Which feed is selected by --only or --feed, and which of the two is left out.
 BOTH = [("2", "other"), ("other", "2"), ("same", "1"), ("1", "same"), ("02", "2")]
 # Selections by both options that leave out a feed, and which one is left out.
@@ -150,34 +156,37 @@ MIXED = [
 
 
 # Catches a program that answers a number beyond the files by nothing: `table --feed=3`.
-# Catches a program that takes the first of two feeds with the same name, or the number instead of the name: `test_ambiguous_feeds`.
+# Catches a program that takes the first of two feeds with the same name, or the number instead of the name.
 class Unknown(ProgramCase):
     """A feed that is unknown or ambiguous is an error, and no file is read."""
+
+    def assert_no_feed(self, words, word):
+        self.assert_refused(words, f"no feed has this number or name: {word}")
 
     def test_unknown_feeds(self):
         for command in ("lookup --address 10.0.0.1", "table"):
             for option in ("--only", "--feed", "--without"):
                 for word in UNKNOWN:
-                    message = f"no feed has this number or name: {word}"
                     for first in ([], [f"{option}=other"]):
-                        self.assert_refused([*command.split(), *first, f"{option}={word}", *MISSING.split()], message)
+                        self.assert_no_feed([*command.split(), *first, f"{option}={word}", *MISSING.split()], word)
 
     def test_ambiguous_feeds(self):
         for command in ("lookup --address 10.0.0.1", "table"):
             for option in ("--only", "--feed", "--without"):
                 for word, files in AMBIGUOUS:
-                    self.assert_refused(f"{command} {option} {word} {files}", f"more than one feed has this number or name: {word}")
+                    message = f"more than one feed has this number or name: {word}"
+                    self.assert_refused(f"{command} {option} {word} {files}", message)
 
     def test_unknown_feeds_of_a_side(self):
+        both = "one.feed same.feed -- one.feed row.feed same.feed"
         for side, files, name in (("old", 2, "row"), ("new", 3, "two")):
             for option in ("only", "feed", "without"):
                 for word in (str(files + 1), name):
-                    self.assert_refused(f"diff --{side}-{option} {word} one.feed same.feed -- one.feed row.feed same.feed",
-                                        f"no feed has this number or name: {word}")
+                    self.assert_no_feed(f"diff --{side}-{option} {word} {both}", word)
 
     def test_known_feeds(self):
-        for words in ("--feed 1 row.feed", "--feed 01 row.feed", "--feed row row.feed", "--without 2 row.feed missing/2.feed",
-                      "--without 65001 row.feed missing/65001.feed"):
+        for words in ("--feed 1 row.feed", "--feed 01 row.feed", "--feed row row.feed",
+                      "--without 2 row.feed missing/2.feed", "--without 65001 row.feed missing/65001.feed"):
             self.assert_prints(f"table {words}", route(1))
         self.assert_prints(f"table --without 1 --without 2 {MISSING}")
 
@@ -192,7 +201,8 @@ class Unknown(ProgramCase):
                     self.assert_contradiction(f"table {given} {MISSING}", out)
                     self.assert_contradiction(f"lookup --address 10.0.0.1 {given} {MISSING}", out)
                     for side in ("old", "new"):
-                        self.assert_contradiction(f"diff {given.replace('--', f'--{side}-')} {MISSING} -- {MISSING}", out)
+                        of_side = given.replace("--", f"--{side}-")
+                        self.assert_contradiction(f"diff {of_side} {MISSING} -- {MISSING}", out)
         for given, out in MIXED:
             self.assert_contradiction(f"table {given} {MISSING}", out)
 

@@ -1,4 +1,4 @@
-"""Answers with feeds' names, as JSON and as CSV, beside the lines of the same command and what Python's modules read."""
+"""Answers with feeds' names, as JSON and as CSV: those of the same command's lines, by Python's modules."""
 import csv
 import io
 import json
@@ -28,19 +28,21 @@ NAMELESS = (
 # Characters next to those that no name may have, and one of them in a directory's name.
 NAMED_BESIDE = [f"a{chr(code)}b.feed" for code in (
     0xA0, 0xE9, 0x61B, 0x61D, 0x200D, 0x2010, 0x2029, 0x202F, 0x2065, 0x206A)] + ["\x9b/a.feed"]
-ONE_NAME = (("east.feed", "feeds/east.feed"), ("east.feed", "east"), ("./north", "north.feed"), ("east.feed", "east.feed"))
+ONE_NAME = (("east.feed", "feeds/east.feed"), ("east.feed", "east"), ("./north", "north.feed"),
+            ("east.feed", "east.feed"))
 OFFERED = "version 2\nadd 10.1.0.0/16 70 192.0.2.4\nadd 10.0.0.0/8 5 discard\nadd 0.0.0.0/0 0 192.0.2.3\n"
 ASKED = ["--address", "10.1.2.3", "--address", "10.2.0.0", "--address", "255.255.255.255"]
 COMMANDS = (["lookup", *ASKED], ["lookup", "--all", *ASKED], ["table"], ["table", "--best"])
 # The files of a query, and its options; only these files can be named.
 QUERIED = ((list(NAMED), ["--names"]), ([*NAMED, *NAMELESS], []))
+SAME_NAME = "two feeds with the same name (rename a file, or leave out --names): {}, {}".format
 REFUSED_NAME = "no valid feed name (rename the file, or leave out --names): {}".format
 ONE_ADDRESS = "lookup --address 10.0.0.1"
 
 
 class FormatCase(ProgramCase):
     def write_offers(self, paths):
-        """Writes files of these paths, which offer the same routes in rising order of the preferences, and returns the paths."""
+        """Writes files of these paths, which offer the same routes in rising order of the preferences."""
         self.write(dict.fromkeys(paths, OFFERED))
         return list(paths)
 
@@ -96,8 +98,8 @@ class Json(FormatCase):
                 with self.named(" ".join([*command, *flags])):
                     wanted = with_files(objects_of(command, self.stdout(*command, *paths)), paths, bool(flags))
                     found = self.stdout(*command, "--json", *flags, *paths)
-                    self.assertEqual([json.loads(line, object_pairs_hook=unlike_twice) for line in found.split("\n")[:-1]], wanted)
-                    self.assertEqual(found[-1:], "\n")
+                    objects = [json.loads(line, object_pairs_hook=unlike_twice) for line in found.split("\n")[:-1]]
+                    self.assertEqual((objects, found[-1:]), (wanted, "\n"))
 
 
 # The same route in each syntax, to the byte: all columns of each command, an address without a route and no row at all.
@@ -126,16 +128,16 @@ NO_ROUTE_TEXTS = (
     ("lookup --all --addresses none.txt", "address,prefix,feed,name,file,pref,via,discard,reason\n"),
 )
 # Options that no command has beside --csv.
-BESIDE_CSV = [("--json", ONE_ADDRESS), ("--json", "table"), ("--json", "diff"), ("--keep-invalid", ONE_ADDRESS), ("--count", "table"),
-              ("--total", "table"), ("--count", "diff")]
+BESIDE_CSV = [("--json", ONE_ADDRESS), ("--json", "table"), ("--json", "diff"), ("--keep-invalid", ONE_ADDRESS),
+              ("--count", "table"), ("--total", "table"), ("--count", "diff")]
 
 
 class Csv(FormatCase):
-    # Catches a field that isn't quoted or a quotation mark that isn't doubled, a header that is left out or printed twice, LF
-    # instead of CR and LF, a discard that is another field, and fewer fields for no route.
+    # Catches a field that isn't quoted or a quotation mark that isn't doubled, a header that is left out or printed
+    # twice, LF instead of CR and LF, a discard that is another field, and fewer fields for no route.
     # Catches a header without `reason`, or a row of the best route without its empty field: the same, with `--all`.
     def test_records(self):
-        """The records are those that Python's `csv` writes of what `--json` prints, and it reads the same fields from them."""
+        """The records are those that Python's `csv` writes of what `--json` prints, and it reads the same fields."""
         for paths, flags in QUERIED:
             self.write_offers(paths)
             for command in (*COMMANDS, ["table", "--within", "11.0.0.0/8"], ["table", "--feed", "2"]):
@@ -145,7 +147,8 @@ class Csv(FormatCase):
                     self.assert_ended(self.yarib(*command, "--csv", *flags, *paths), csv_of(command, objects),
                                       ended.stderr, ended.returncode)
             with self.named(" ".join(["what csv reads", *flags])):
-                read = list(csv.DictReader(io.StringIO(self.stdout("table", "--csv", *flags, *paths), newline=""), strict=True))
+                text = io.StringIO(self.stdout("table", "--csv", *flags, *paths), newline="")
+                read = list(csv.DictReader(text, strict=True))
                 self.assertEqual({tuple(row) for row in read}, {ROUTE_COLUMNS})
                 self.assertEqual([row["file"] for row in read], [paths[int(row["feed"]) - 1] for row in read])
 
@@ -156,12 +159,13 @@ class Csv(FormatCase):
         for texts, file in ((CSV_TEXTS, one), (NO_ROUTE_TEXTS, "empty.feed")):
             for words, text in texts:
                 self.assert_prints([*words.split(), "--csv", file], text.replace("\n", "\r\n"))
+        columns = "old_via,old_discard,new_via,new_discard\r\n"
         self.assert_prints("diff --csv row.feed -- empty.feed",
-                           "first,last,old_via,old_discard,new_via,new_discard\r\n10.0.0.0,10.255.255.255,192.0.2.1,,,\r\n", "", 1)
-        self.assert_prints("diff --csv --prefixes row.feed -- row.feed", "prefix,old_via,old_discard,new_via,new_discard\r\n")
+                           f"first,last,{columns}10.0.0.0,10.255.255.255,192.0.2.1,,,\r\n", "", 1)
+        self.assert_prints("diff --csv --prefixes row.feed -- row.feed", f"prefix,{columns}")
 
-    # Catches a comparison that prints an answer of the old side as one of the new, a header of other columns, or another
-    # number of fields for no route.
+    # Catches a comparison that prints an answer of the old side as one of the new, a header of other columns, or
+    # another number of fields for no route.
     def test_comparisons(self):
         """Random tables: what Python's `csv` writes of the objects that the same command prints with --json."""
         choice, names = random.Random(93), ["a", ",", '"', "ä,b", '"",""', "\U0001f600"]
@@ -219,6 +223,6 @@ class Names(FormatCase):
         for first, second in ONE_NAME:
             self.write_offers(["west.feed", first, "other.feed", second])
             self.assert_refused(["table", "--names", "west.feed", first, "other.feed", second],
-                                f"two feeds with the same name (rename a file, or leave out --names): {first}, {second}")
+                                SAME_NAME(first, second))
             self.assertEqual(self.yarib("table", first, second).returncode, 0)
         self.assert_prints(["table", "--names", *["east.feed"] * (MAX_FEEDS + 1)], name="too many files", **TOO_MANY)

@@ -66,7 +66,7 @@ class Help(ProgramCase):
                              ("no-option", ("--frob", "--limit", "--limits", "--help-me", "--versions", "--run"))):
             for words in [[one, *more] for one in listed for more in ([], ["run", "row.feed"], ["--help"])]:
                 ended = self.yarib(*words)
-                found = re.sub(r"\n\n  tip: .*?\n\nUsage: yarib (--\w+ )?", "\n\nUsage: yarib ", ended.stderr, flags=re.S)
+                found = re.sub(r"  tip: .*?\n\nUsage: yarib (--\w+ )?", "Usage: yarib ", ended.stderr, flags=re.S)
                 with self.subTest(" ".join(words)):
                     self.assert_ended(ended._replace(stderr=found), "", stored(name).replace("WORD", words[0]), 3)
 

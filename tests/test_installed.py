@@ -59,11 +59,9 @@ class Installed(CopyCase):
                 self.assert_ended(self.install(prefix), f"install: {prefix}/bin/yarib, its manual and completions are installed\n")
                 self.assertEqual(files_below(prefix), INSTALLED)
 
-    def test_modes(self):
+    def test_modes_and_contents(self):
         modes = {oct((self.prefix / name).stat().st_mode & 0o777) for name in ("bin/yarib", "libexec/yarib/yarib")}
         self.assertEqual(modes, {"0o755"})
-
-    def test_contents(self):
         self.assertEqual((self.prefix / "libexec/yarib/yarib").read_bytes(), program().read_bytes())
         self.assertEqual((self.prefix / "share/man/man1/yarib.1").read_text(), (TOP / "packaging/yarib.1").read_text())
 
@@ -157,7 +155,7 @@ class Installed(CopyCase):
                     self.assert_ended(ended, stderr=None, returncode=126)
                     self.assertEqual(ended.stderr.splitlines()[-1:], [f"yarib: {installed} is damaged or missing: install it again"])
 
-    # Catches a directory's name that is used wrongly instead of refused.
+    # Catches a directory's name that is used wrongly.
     def test_name_that_is_not_utf8(self):
         prefix = os.fsencode(self.folder) + b"/\xff"
         self.assert_ended(self.install(prefix), stdout=None)
@@ -169,9 +167,7 @@ class Installed(CopyCase):
     # Catches calls that use each other's temporary files or record.
     def test_30_calls_at_once(self):
         prefix = self.folder / "new/deep"
-        calls = [subprocess.Popen([self.copy / "install", prefix], stdout=subprocess.DEVNULL, stderr=subprocess.PIPE,
-                                  env=environment()) for _ in range(30)]
-        self.assertEqual({(one.communicate()[1], one.returncode) for one in calls}, {(b"", 0)})
+        self.assert_installed_at_once(30, prefix)
         self.assertEqual(files_below(prefix), INSTALLED)
         self.assert_ended(self.call(prefix / "bin/yarib", "run", "row.feed"), ROW_OUT)
         self.assert_ended(self.install("--remove", prefix), stdout=None)
@@ -209,46 +205,30 @@ class Installed(CopyCase):
         self.assertEqual(len(moved), len(INSTALLED) - 1)
 
 
-class OtherSources(CopyCase):
-    """What is built of changed sources, or was changed since it was built, isn't installed."""
-
-    def assert_not_installed(self):
-        ended = self.install(self.folder / "put", env={"PATH": "/usr/bin:/bin"})
-        self.assert_ended(ended, stderr=None, returncode=127)
-        self.assertEqual(files_below(self.folder / "put"), [])
-
-    # Catches one that installs a stale program.
-    def test_stale_program(self):
-        with open(self.own_copy() / "crates/rt_trie/src/lib.rt", "a") as source:
-            source.write("// another\n")
-        self.assert_not_installed()
-
-    # Catches an ./install that installs an empty or changed program.
-    def test_built_program_that_is_empty(self):
-        built_in(self.own_copy()).write_bytes(b"")
-        self.assert_not_installed()
-
-    def test_built_program_that_is_changed(self):
-        built_in(self.own_copy()).write_bytes(program().read_bytes()[:-1] + b"x")
-        self.assert_not_installed()
+    # Catches an ./install that installs a stale, empty or changed program.
+    def test_built_programs_that_are_refused(self):
+        self.own_copy()
+        source, whole = self.copy / "crates/rt_trie/src/lib.rt", program().read_bytes()
+        for name, file, content in (("empty", built_in(self.copy), b""), ("changed", built_in(self.copy), whole[:-1] + b"x"),
+                                    ("stale", source, source.read_bytes() + b"// another\n")):
+            build(self.copy, whole)
+            file.write_bytes(content)
+            with self.subTest(name):
+                ended = self.install(self.folder / "put", env={"PATH": "/usr/bin:/bin"})
+                self.assert_ended(ended, stderr=None, returncode=127)
+                self.assertEqual(files_below(self.folder / "put"), [])
 
 
 class Library(CopyCase):
     """./install --library below odd names, with an archive in C instead of the proved one."""
 
+    kind = ["--library"]
+
     def setUp(self):
         super().setUp()
         library_stub(self.folder / "one.a")
         write_script(self.folder / "kit/bin/rt", f"#!/bin/sh\necho '{self.folder}/kit/page.md'\n")
-
-    def install(self, *words, **settings):
-        env = first_on_path(self.folder / "kit/bin", YARIB_ARCHIVE=str(self.folder / "one.a"))
-        return super().install("--library", *words, **{"env": env} | settings)
-
-    def assert_refused(self, prefix):
-        ended = self.install(prefix)
-        self.assert_ended(ended, stderr=None, returncode=2)
-        self.assertEqual((len(ended.stderr.splitlines()), pathlib.Path(str(prefix).strip()).exists()), (1, False))
+        self.environment = first_on_path(self.folder / "kit/bin", YARIB_ARCHIVE=str(self.folder / "one.a"))
 
     # Catches a prefix that is put into the .pc file unquoted.
     @needs_command("gcc", "pkg-config")
@@ -276,21 +256,17 @@ class Library(CopyCase):
         self.assert_ended(self.install(self.folder / "lib"), stdout=None)
 
     def test_6_calls_at_once(self):
-        env = first_on_path(self.folder / "kit/bin", YARIB_ARCHIVE=str(self.folder / "one.a"))
-        calls = [subprocess.Popen([self.copy / "install", "--library", self.folder / "library"], stdout=subprocess.DEVNULL,
-                                  stderr=subprocess.PIPE, env=env) for _ in range(6)]
-        self.assertEqual({(one.communicate()[1], one.returncode) for one in calls}, {(b"", 0)})
+        self.assert_installed_at_once(6, self.folder / "library")
 
 
 class Prefixes(CopyCase):
     """Prefixes that can't be recorded, and DESTDIR."""
 
+    # Catches a directory's name that is used wrongly instead of refused.
     def test_prefixes_with_a_line_end(self):
         for place, name in (("within", "a\nb"), ("at the end", "end\n")):
             with self.subTest(place):
-                ended = self.install(self.folder / name)
-                self.assert_ended(ended, stderr=None, returncode=2)
-                self.assertEqual((len(ended.stderr.splitlines()), (self.folder / name.strip()).exists()), (1, False))
+                self.assert_refused(self.folder / name)
 
     def test_destdir(self):
         """With DESTDIR, to be moved from there: the launcher names the final path."""

@@ -1,4 +1,4 @@
-"""Lines of feed files: the fault of each, its message, and hostile lines beside a plain reader (tests/line_reader.py)."""
+"""Lines of feed files: the fault of each, its message, and hostile lines, which a plain reader reads too."""
 import gzip
 import random
 
@@ -157,7 +157,8 @@ class HostileLines(HostileCase):
 
     # Catches a reader that accepts 129 bytes.
     def test_lines_about_128_bytes(self):
-        self.assert_lines([front + bytes([filling]) * count for front in FRONTS for filling in b"10 x\0" for count in range(131)])
+        fillings = [bytes([filling]) * count for filling in b"10 x\0" for count in range(131)]
+        self.assert_lines([front + filling for front in FRONTS for filling in fillings])
 
 
 # Catches a reader that ends a field at NUL, like at a space.
@@ -168,7 +169,8 @@ class EveryByte(HostileCase):
     """Every byte at every place of each command."""
 
     def assert_every_byte(self, command):
-        self.assert_lines([command[:at] + bytes([byte]) + command[at + 1 :] for at in range(len(command)) for byte in range(256)])
+        self.assert_lines([command[:at] + bytes([byte]) + command[at + 1 :]
+                           for at in range(len(command)) for byte in range(256)])
 
 
 # Catches a reader that drops a last line without LF.

@@ -1,10 +1,10 @@
 """`yarib lookup`: answers, address files, and invalid addresses."""
-import ipaddress
 import random
 
 from dev.models import calls
 from dev.models.table_model import E3, E8, HAS_CR, IPV6, MAX_FEEDS, Table, dotted, route_text
 from tests.cases import TOO_MANY, ProgramCase, prefix_of, route
+from tests.line_reader import address
 
 NEEDS = {"program"}
 
@@ -47,11 +47,7 @@ FOUND = "".join(line for line in ALL_FOUND.splitlines(keepends=True) if " also "
 
 
 def is_address(line):
-    """Returns true if the line is an address, as an address file has it."""
-    try:
-        return str(ipaddress.IPv4Address(line)) == line
-    except ipaddress.AddressValueError:
-        return False
+    return address(line) is not None
 
 
 def is_skipped(line):
@@ -82,7 +78,8 @@ class Answers(ProgramCase):
         choice, model, names = random.Random(27), Table(1_000_000), [f"shown{feed}.feed" for feed in range(1, 7)]
         for feed, name in enumerate(names, 1):
             self.write({name: "".join(self.drawn_lines(choice, model, feed))})
-        addresses = [dotted(choice.choice((10 << 24, 172 << 24, 192 << 24)) + choice.randrange(1 << 16)) for _ in range(2_000)]
+        addresses = [dotted(choice.choice((10 << 24, 172 << 24, 192 << 24)) + choice.randrange(1 << 16))
+                     for _ in range(2_000)]
         text = "# asked\n\n" + "".join(f"{address}\n" for address in addresses)
         self.write({"asked.txt": text})
         answers = [f"{address} {model.best(address)}\n" for address in addresses]
@@ -109,8 +106,8 @@ class Answers(ProgramCase):
                 yield f"{line}\nlookup 10.0.0.1\n"
 
     def test_small_universes(self):
-        """All addresses of 10.0.0.0/27, its neighbours and the first and last address, in tables of prefixes within it."""
-        addresses = [dotted((10 << 24) + at) for at in range(-1, 33)] + ["0.0.0.0", "127.255.255.255", "255.255.255.255"]
+        """All addresses of 10.0.0.0/27, its neighbours and the first and last address, in tables of prefixes in it."""
+        addresses = [*(dotted((10 << 24) + at) for at in range(-1, 33)), *ADDRESSES]
         asked = [word for address in addresses for word in ("--address", address)]
         for seed in range(40):
             choice, model, texts = random.Random(seed), Table(65_536), ["", "", ""]
@@ -137,8 +134,9 @@ class AddressFiles(ProgramCase):
     def assert_answers(self, line, stdout, stderr="", returncode=0, *words):
         """Compares what a look-up prints for an address file of this line and 1.2.3.4."""
         self.write({"asked.txt": f"{line}\n1.2.3.4"})
-        self.assert_prints(["lookup", *words, "--addresses", "asked.txt", "each.feed"],
-                           stdout + f"1.2.3.4 route {route_text('1.2.3.4/32')}\n", stderr, returncode, name=f"{line!r}{words}")
+        stdout += f"1.2.3.4 route {route_text('1.2.3.4/32')}\n"
+        self.assert_prints(["lookup", *words, "--addresses", "asked.txt", "each.feed"], stdout, stderr, returncode,
+                           name=" ".join([repr(line), *words]))
 
     def test_addresses(self):
         for line in ADDRESSES:
@@ -159,8 +157,8 @@ class AddressFiles(ProgramCase):
             self.assert_answers(line, "", FAULTY(1, 1, fault), 2)
             self.assert_answers(line, "1 invalid\n", FAULTY(1, 1, fault), 2, "--keep-invalid")
 
-    # Catches a number of the first invalid address that doesn't count skipped lines, or a program that reads only 64 KB of
-    # the file: `a long text of addresses`.
+    # Catches a number of the first invalid address that doesn't count skipped lines, or a program that reads only 64 KB
+    # of the file: `a long text of addresses`.
     # Catches counts of invalid addresses that stop at 255 or 65,535: `256 invalid lines`, `70001 invalid lines`.
     # Catches F3 for more than 2,000 addresses, or status 6 for more than 2,000 answers: `20,000 addresses`.
     def test_long_files(self):
@@ -198,9 +196,9 @@ class AddressFiles(ProgramCase):
 
 # Catches a program that prints invalid lines before or after all answers, with their number among the invalid lines, or
 # before the named addresses.
-# Catches an invalid line that is left out after the last address or before the first, or a piece of 256 addresses that is
-# answered twice or not at all.
-# Catches an object for an invalid line without `--json`, or a line with it; also one with `"also"`: the same, with `--json`.
+# Catches an invalid line that is left out after the last address or before the first, or a piece of 256 addresses that
+# is answered twice or not at all.
+# Catches an object for an invalid line without `--json`, or a line with it; also one with `"also"`: `--json`.
 # Catches a program that writes nothing, or doesn't notice that it can't write, if no line is an address: `no address`.
 # Catches other output without `--keep-invalid`.
 class KeptLines(ProgramCase):
@@ -211,14 +209,16 @@ class KeptLines(ProgramCase):
         self.write({"asked.txt": "\n".join(lines), "second.feed": "add 10.0.0.0/8 200 192.0.2.2\n"})
         invalid = [number for number, line in enumerate(lines, 1) if not is_skipped(line) and not is_address(line)]
         report = FAULTY(len(invalid), invalid[0], E3)
-        for words in ([], ["--all"], ["--names"], ["--names", "--all"], ["--json"], ["--json", "--names"], ["--json", "--all"]):
+        for words in ("", "--all", "--names", "--names --all", "--json", "--json --names", "--json --all"):
+            words = words.split()
             each = {address: self.stdout("lookup", *words, "--address", address, "row.feed", "second.feed")
                     for address in sorted({"10.0.0.2", *filter(is_address, lines)})}
             kept = '{{"line":{},"invalid":true}}\n' if "--json" in words else "{} invalid\n"
-            rows = [(line, each.get(line, kept.format(number))) for number, line in enumerate(lines, 1) if not is_skipped(line)]
+            rows = [each.get(line, kept.format(number)) for number, line in enumerate(lines, 1) if not is_skipped(line)]
+            valid = map(each.get, filter(is_address, lines))
             asked = ["lookup", *words, "--address", "10.0.0.2", "--addresses", "asked.txt", "row.feed", "second.feed"]
-            self.assert_prints([*asked, "--keep-invalid"], each["10.0.0.2"] + "".join(row for _, row in rows), report, 2)
-            self.assert_prints(asked, each["10.0.0.2"] + "".join(row for line, row in rows if is_address(line)), report, 2)
+            self.assert_prints([*asked, "--keep-invalid"], "".join([each["10.0.0.2"], *rows]), report, 2)
+            self.assert_prints(asked, "".join([each["10.0.0.2"], *valid]), report, 2)
 
     def drawn_lines(self, choice):
         """Returns lines with invalid and skipped ones among 1 to 600 addresses, and at both ends."""
@@ -242,7 +242,8 @@ class Refused(ProgramCase):
 
     def test_invalid_addresses(self):
         for word in ("10.0.0.256", "", "10.0.0.1/32", "10.0.0.01", " 10.0.0.1", "x"):
-            self.assert_refused(["lookup", "--address", "10.0.0.1", f"--address={word}", "missing"], f"not an address: {word}")
+            words = ["lookup", "--address", "10.0.0.1", f"--address={word}", "missing"]
+            self.assert_refused(words, f"not an address: {word}")
         self.assert_refused("lookup row.feed", "no address given: use --address or --addresses")
 
     def test_files(self):

@@ -21,19 +21,19 @@ class Meetings(ProgramCase):
         base = lambda feed, at: f"{feed}.{at >> 8}.{at & 255}.0"
         lines = lambda feed: (f"add {base(feed, at)}/24 {at} 192.0.2.1\nlookup {base(feed, at)}\n" for at in range(500))
         rows = {feed: [route_text(f"{base(feed, at)}/24", feed, at) for at in range(500)] for feed in (1, 2)}
-        reports = [report(feed, [answer for row in rows[feed] for answer in ("added", f"route {row}")]) for feed in (1, 2)]
+        reports = [report(feed, [answer for row in rows[feed] for answer in ("added", f"route {row}")])
+                   for feed in (1, 2)]
         for batch in ("1", "3", "7", "256"):
-            self.assert_run(f"in batches of {batch}", ["".join(lines(1)), "".join(lines(2))],
-                            "".join(reports) + table_text(rows[1] + rows[2]), words=["--limit", "500", "--batch", batch])
+            self.assert_run(f"--batch {batch}", ["".join(lines(1)), "".join(lines(2))],
+                            "".join(reports) + table_text(rows[1] + rows[2]), 0, ["--limit", "500", "--batch", batch])
 
     # Catches a `run_texts` that runs one feed after another: ` dumped 2` isn't found.
     def test_with_a_schedule(self):
         """A second route is added and withdrawn; during each add, a dump of the other feed waits for the lock."""
         if is_unproved():
             self.skipTest("AddressSanitizer replaces the memory allocator, which makes the schedule")
-        comes_and_goes = "add 10.0.0.0/8 1 192.0.2.1\nwithdraw 10.0.0.0/8\n"
         self.write({"1.feed": "dump\n" * 20,
-                    "2.feed": "add 11.0.0.0/8 1 192.0.2.1\n" + comes_and_goes * 10 + "withdraw 11.0.0.0/8\n"})
+                    "2.feed": "add 11.0.0.0/8 1 192.0.2.1\n" + COMES_AND_GOES[0] * 10 + "withdraw 11.0.0.0/8\n"})
         ended = in_turns(self, "--limit", "2", "--batch", "1", "1.feed", "2.feed")
         self.assertEqual((ended.returncode, ended.stdout.splitlines()[-1:]), (0, ["table 0"]))
         self.assertIn(" dumped 2\n", ended.stdout)
@@ -42,7 +42,7 @@ class Meetings(ProgramCase):
     def test_without_a_schedule(self):
         """Runs two long texts until a dump of the second meets the route of the first, at most 100 times."""
         self.varies()
-        self.write({"1.feed": "add 10.0.0.0/8 1 192.0.2.1\nwithdraw 10.0.0.0/8\n" * 10_000, "2.feed": "dump\n" * 20_000})
+        self.write({"1.feed": COMES_AND_GOES[0] * 10_000, "2.feed": "dump\n" * 20_000})
         for _ in range(100):
             ended = self.yarib("run", "--limit", "1", "--batch", "1", "1.feed", "2.feed")
             self.assertEqual((ended.returncode, ended.stdout.splitlines()[-1:], ended.stderr), (0, ["table 0"], ""))
@@ -101,8 +101,8 @@ class RandomRuns(ProgramCase):
     # On a single processor the feeds may run one after another.
     # Catches a look-up that answers the last route stored for the longest prefix instead of the best.
     def test_some_order_explains_each_run(self):
-        """Judges up to 100 runs for each number of feeds (on a busy machine, as many as begin in four seconds), and counts
-        those that no order of whole feeds explains."""
+        """Judges up to 100 runs for each number of feeds (on a busy machine, as many as begin in four seconds), and
+        counts those that no order of whole feeds explains."""
         self.varies()
         runs, interleaved = 0, 0
         for feeds, lines in ((2, 100), (3, 60), (4, 20), (5, 10), (6, 7)):
@@ -172,6 +172,7 @@ COMES_AND_GOES = ["add 10.0.0.0/8 1 192.0.2.1\nwithdraw 10.0.0.0/8\n", "dump\n"]
 ASKED_TWICE = ["add 10.0.0.0/8 1 192.0.2.1\n", "lookup 10.1.2.3\nlookup 10.1.2.3\n"]
 EACH_OTHER = ["lookup 10.0.0.1\nadd 11.0.0.0/8 1 192.0.2.1\n", "lookup 11.0.0.1\nadd 10.0.0.0/8 2 192.0.2.2\n"]
 TEN, ELEVEN, OTHER_TEN = route_text("10.0.0.0/8"), route_text("11.0.0.0/8"), route_text("10.0.0.0/8", 2, 2, "192.0.2.2")
+FOUND_TEN = f"2:2 route {TEN}"
 # Outputs: their name, the texts, how many commands are executed at once, the lines, and whether some order of batches
 # explains them.
 JUDGED = [
@@ -180,13 +181,15 @@ JUDGED = [
     ("a dump that cuts a batch", COMES_AND_GOES, 2, ["1:1 added", "1:2 withdrawn", "2:1 dumped 1", "table 0"], False),
     ("a lost withdrawal", COMES_AND_GOES, 1, ["1:1 added", "1:2 withdrawn", "2:1 dumped 1", "table 1", TEN], False),
     ("swapped replies", COMES_AND_GOES, 1, ["1:1 withdrawn", "1:2 added", "2:1 dumped 0", "table 0"], False),
-    ("more routes than there ever were", COMES_AND_GOES, 1, ["1:1 added", "1:2 withdrawn", "2:1 dumped 2", "table 0"], False),
+    ("more routes than there ever were", COMES_AND_GOES, 1,
+     ["1:1 added", "1:2 withdrawn", "2:1 dumped 2", "table 0"], False),
     ("a missing line", COMES_AND_GOES, 1, ["1:1 added", "2:1 dumped 0", "table 0"], False),
     ("a line of another feed", COMES_AND_GOES, 1, ["1:1 added", "2:2 withdrawn", "2:1 dumped 0", "table 0"], False),
     ("another count of the table", COMES_AND_GOES, 1, ["1:1 added", "1:2 withdrawn", "2:1 dumped 0", "table 1"], False),
-    ("a line after the table", COMES_AND_GOES, 1, ["1:1 added", "1:2 withdrawn", "2:1 dumped 0", "table 0", "table 0"], False),
-    ("an add between look-ups", ASKED_TWICE, 1, ["1:1 added", "2:1 no route", f"2:2 route {TEN}", "table 1", TEN], True),
-    ("an add that cuts a batch", ASKED_TWICE, 2, ["1:1 added", "2:1 no route", f"2:2 route {TEN}", "table 1", TEN], False),
+    ("a line after the table", COMES_AND_GOES, 1,
+     ["1:1 added", "1:2 withdrawn", "2:1 dumped 0", "table 0", "table 0"], False),
+    ("an add between look-ups", ASKED_TWICE, 1, ["1:1 added", "2:1 no route", FOUND_TEN, "table 1", TEN], True),
+    ("an add that cuts a batch", ASKED_TWICE, 2, ["1:1 added", "2:1 no route", FOUND_TEN, "table 1", TEN], False),
     ("swapped look-ups", ASKED_TWICE, 1, ["1:1 added", f"2:1 route {TEN}", "2:2 no route", "table 1", TEN], False),
     ("one finds the other's route", EACH_OTHER, 1,
      [f"1:1 route {OTHER_TEN}", "1:2 added", "2:1 no route", "2:2 added", "table 2", OTHER_TEN, ELEVEN], True),

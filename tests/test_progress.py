@@ -49,11 +49,13 @@ class TerminalCase(ProgramCase):
         os.close(terminal)
         return child, screen
 
-    def on_terminal(self, words, waits_for=None, go_on=lambda: None, out_too=False, is_short=False, is_long=False, is_ticked=False):
-        """Returns the status, standard output, and what a terminal as standard error receives besides the progress line;
-        the terminal may be standard output too. If the run is held up, the line has to be `waits_for` before `go_on` is
-        called, and may also be one of `OTHERS`. In a short run there may be a line only if the run took over a second, in
-        a long one only before its output. In a ticked run the line's seconds take milliseconds until it is `waits_for`."""
+    def on_terminal(self, words, waits_for=None, go_on=lambda: None, out_too=False, is_short=False, is_long=False,
+                    is_ticked=False):
+        """Returns the status, standard output, and what a terminal as standard error receives besides the progress
+        line; the terminal may be standard output too. If the run is held up, the line has to be `waits_for` before
+        `go_on` is called, and may also be one of `OTHERS`. In a short run there may be a line only if the run took over
+        a second, in a long one only before its output. In a ticked run the line's seconds take milliseconds until it is
+        `waits_for`."""
         began = time.monotonic()
         waits, ticks = os.pipe()
         ticked = {"env": loaded(self, TICKS_IN=waits), "pass_fds": [waits]} if is_ticked else {}
@@ -76,7 +78,8 @@ class TerminalCase(ProgramCase):
         child.wait(timeout=120)
         *lines, rest = sent.decode().replace(TICK, "").split(ERASED)
         is_told = waits_for in lines if waits_for else not lines or is_long or is_short and time.monotonic() - began > 1
-        return child.returncode, out.decode(), rest if is_told and OTHERS.issuperset(lines) else f"{lines}, and then {rest}"
+        rest = rest if is_told and OTHERS.issuperset(lines) else f"{lines}, and then {rest}"
+        return child.returncode, out.decode(), rest
 
     def assert_shows(self, name, words, stdout, stderr="", returncode=0, **how):
         """Compares the status, standard output and the rest of standard error of a call on a terminal."""
@@ -92,8 +95,8 @@ class Progress(TerminalCase):
         self.assert_shows("a run", "run row.feed", ROW_OUT, is_short=True)
         self.assert_shows("a run on a terminal alone", "run row.feed", "", ROW_OUT, out_too=True, is_short=True)
         self.assert_shows("a missing file", "run missing", "", "yarib: cannot read missing\n", 4, is_short=True)
-        self.assert_shows("a difference", "diff row.feed -- empty.feed", "10.0.0.0-10.255.255.255 via 192.0.2.1 -> no route\n", "", 1,
-                          is_short=True)
+        self.assert_shows("a difference", "diff row.feed -- empty.feed",
+                          "10.0.0.0-10.255.255.255 via 192.0.2.1 -> no route\n", "", 1, is_short=True)
         self.assert_shows("a fault of a replay", "replay --levels 0", "", "yarib: fault P2\n", 3, is_short=True)
 
     # Catches a call on a terminal that lasts until the progress line's next second.
@@ -119,7 +122,8 @@ class Progress(TerminalCase):
 
     def test_slow_file_without_a_terminal(self):
         os.mkfifo(self.folder / "slow.feed")
-        child = subprocess.Popen([program(), "run", "slow.feed"], stdout=subprocess.PIPE, stderr=subprocess.PIPE, text=True, cwd=self.folder)
+        child = subprocess.Popen([program(), "run", "slow.feed"], stdout=subprocess.PIPE, stderr=subprocess.PIPE,
+                                 text=True, cwd=self.folder)
         time.sleep(1.5)
         (self.folder / "slow.feed").write_text(ROW)
         self.assertEqual(child.communicate(timeout=120), (ROW_OUT, ""))
@@ -130,7 +134,8 @@ class Progress(TerminalCase):
         length."""
         os.mkfifo(self.folder / "slow.feed")
         waits, ticks = os.pipe()
-        child, screen = self.start("run slow.feed", stdout=subprocess.DEVNULL, env=loaded(self, TICKS_IN=waits), pass_fds=[waits])
+        child, screen = self.start("run slow.feed", stdout=subprocess.DEVNULL, env=loaded(self, TICKS_IN=waits),
+                                   pass_fds=[waits])
         os.close(waits)
         with open(self.folder / "slow.feed", "w") as feed:  # the program has opened it for reading
             for second in range(1, 6):
@@ -155,7 +160,8 @@ class LongRuns(TerminalCase):
         self.write({"long.feed": ROW * 100_000})
         added = "1:1 added\n" + "".join(f"1:{number} exists\n" for number in range(2, 100_001)) + table(route(1))
         self.assert_shows("to a pipe", "run long.feed", added, waits_for="yarib: writing")
-        self.assert_shows("on a terminal alone", "run long.feed", "", added, go_on=lambda: time.sleep(1.5), out_too=True, is_long=True)
+        self.assert_shows("on a terminal alone", "run long.feed", "", added, go_on=lambda: time.sleep(1.5),
+                          out_too=True, is_long=True)
 
     # Catches a progress line before a run has begun.
     def test_long_replay(self):
@@ -167,7 +173,9 @@ class LongRuns(TerminalCase):
     def test_busy_feeds(self):
         """Each purge goes over all routes of the first feed."""
         rows = "".join(f"add 10.{place >> 8}.{place & 255}.0/24 1 192.0.2.1\n" for place in range(20_000))
-        self.write({"rows.feed": f"version 2\n{rows}", "purges.feed": "version 2\n" + "add 255.0.0.0/8 1 192.0.2.1\npurge\n" * 250})
+        purges = "add 255.0.0.0/8 1 192.0.2.1\npurge\n" * 250
+        self.write({"rows.feed": f"version 2\n{rows}", "purges.feed": f"version 2\n{purges}"})
         ticked, side = {"waits_for": RUNNING, "is_ticked": True}, "rows.feed" + " purges.feed" * (MAX_FEEDS // 2 - 1)
-        self.assert_shows("MAX_FEEDS feeds", "table --feed 2 rows.feed" + " purges.feed" * (MAX_FEEDS - 1), "", **ticked)
+        all_feeds = "rows.feed" + " purges.feed" * (MAX_FEEDS - 1)
+        self.assert_shows("MAX_FEEDS feeds", f"table --feed 2 {all_feeds}", "", **ticked)
         self.assert_shows("as many on both sides", f"diff {side} -- {side}", "", **ticked)

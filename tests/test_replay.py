@@ -20,12 +20,12 @@ class Replays(ProgramCase):
         words = list(shown or map(str, picks))
         self.assert_prints(["replay", "--levels", str(levels), *words], Tree(levels).text(picks), name=name)
 
-    # Catches `replay` always running out of memory, or `replay_text` always returning P3 or `Write`, or doing so only if
-    # nothing is picked.
+    # Catches `replay` always running out of memory, or `replay_text` always returning P3 or `Write`, or doing so only
+    # if nothing is picked.
     def test_worked_replays(self):
         self.assert_calls({}, calls.REPLAYED)
 
-    # Catches a replay without the last of 13 picks, or P3 for 1,000 picks or for the maximum number of levels: the replay.
+    # Catches a replay without the last of 13 picks, or P3 for 1,000 picks or for the maximum number of levels.
     def test_each_number_of_levels(self):
         for levels in range(1, MAX_LEVELS + 1):
             last, choice = 2**levels - 1, random.Random(levels)

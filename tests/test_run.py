@@ -17,14 +17,14 @@ FIRST_LINES = [
     (2, "version 2"), (1, ""), (1, "\nversion 2"), (1, "# x\nversion 2"), (1, "version 2\r"), (1, "version 2 "),
     (1, " version 2"), (1, "version  2"), (1, "version 1"), (1, "Version 2"), (1, "version 22"), (1, "version"),
 ]
-# Texts and the answers to their lines: each `frob` is a line that is seen.
+# Texts with CR, without a last LF, and empty, and how a run of each ends. Each `frob` is a line that is seen.
 TEXTS = [
-    ("", []), ("\n", [None]), ("frob", ["fault E1"]), ("frob\n", ["fault E1"]), ("frob\n\n", ["fault E1", None]),
-    ("\n\nadd", [None, None, "fault E2"]), ("# note\nfrob\r\n", [None, "fault E1"]),
-    ("dump\rdump\nfrob", ["fault E1", "fault E1"]),
-]
-# Texts with CR, without a last LF, and empty, and how a run of each ends.
-ENDS_OF_LINES = [
+    ("frob", 2, "1:1 fault E1\ntable 0\n"),
+    ("frob\n", 2, "1:1 fault E1\ntable 0\n"),
+    ("frob\n\n", 2, "1:1 fault E1\ntable 0\n"),
+    ("\n\nadd", 2, "1:3 fault E2\ntable 0\n"),
+    ("# note\nfrob\r\n", 2, "1:2 fault E1\ntable 0\n"),
+    ("dump\rdump\nfrob", 2, "1:1 fault E1\n1:2 fault E1\ntable 0\n"),
     ("add 10.0.0.0/8 100 192.0.2.1\r\n", 2, "1:1 fault E7\ntable 0\n"),
     ("dump\r\n", 2, "1:1 fault E1\ntable 0\n"),
     ("\r\n", 2, "1:1 fault E1\ntable 0\n"),
@@ -79,21 +79,18 @@ class Runs(ProgramCase):
             answers = [None if line[:1] in ("", "#") else "fault E1" for line in lines]
             if version == 2:
                 answers = [None, "purged 0"]
-            self.assert_run(f"first line {first!r}", ["\n".join(lines)], report(1, answers) + "table 0\n", 2 if version == 1 else 0)
+            self.assert_run(f"first line {first!r}", ["\n".join(lines)], report(1, answers) + "table 0\n",
+                            2 if version == 1 else 0)
 
     # Catches a reader that drops a last line without LF.
     def test_texts_are_cut_into_lines(self):
-        for text, answers in TEXTS:
-            self.assert_run(repr(text), [text], report(1, answers) + "table 0\n", 2 if any(answers) else 0)
-
-    def test_ends_of_lines(self):
-        for text, returncode, stdout in ENDS_OF_LINES:
+        for text, returncode, stdout in TEXTS:
             self.assert_run(repr(text), [text], stdout, returncode)
         self.assert_prints("run row.feed empty.feed row.feed", "1:1 added\n3:1 added\n" + table(route(1), route(3)))
 
     def changes_of(self, seed):
-        """Runs thousands of random commands of one feed over nested prefixes, and compares each answer with the model's, and
-        the table."""
+        """Runs thousands of random commands of one feed over nested prefixes, and compares the answers and the table
+        with the model's."""
         choice, lines = random.Random(seed), ["version 2"]
         for _ in range(4_000):
             length = choice.choice((0, 1, 2, 8, 9, 15, 16, 17, 23, 24, 31, 32))
@@ -146,7 +143,7 @@ class Files(ProgramCase):
     # Catches `SharedRib::new` failing for a limit over 65,536, or for some number of levels, such as that of 16 feeds.
     def test_tables_of_each_size(self):
         for feeds, limit in zip(PLACES, itertools.cycle((1, 65_536, 65_537, 100_000, 999_999, 1_000_000))):
-            self.assert_run(f"{feeds} feeds of {limit} routes", [""] * feeds, "table 0\n", words=["--limit", str(limit)])
+            self.assert_run(f"{feeds} feeds of {limit} routes", [""] * feeds, "table 0\n", 0, ["--limit", str(limit)])
 
 
 class Options(ProgramCase):
@@ -155,8 +152,9 @@ class Options(ProgramCase):
         self.write({"four.feed": "".join(f"add 10.{k}.0.0/16 1 192.0.2.1\n" for k in range(1, 5))})
         for limit in (1, 2, 3, 4, 5, 1_000_000, None):
             kept = min(limit or 4, 4)
-            answers = "".join(f"{feed}:{k} {'added' if k <= kept else 'full'}\n" for feed in (1, 2) for k in range(1, 5))
-            output = answers + table(*(route(feed, f"10.{k}.0.0/16", 1) for k in range(1, kept + 1) for feed in (1, 2)))
+            answers = ["added"] * kept + ["full"] * (4 - kept)
+            routes = [route(feed, f"10.{k}.0.0/16", 1) for k in range(1, kept + 1) for feed in (1, 2)]
+            output = report(1, answers) + report(2, answers) + table(*routes)
             words = ["--limit", str(limit)] if limit else []
             for more in ([], ["--batch", "3"], ["--batch", "1024"]):
                 self.assert_prints(["run", *words, *more, "four.feed", "four.feed"], output)
@@ -167,7 +165,8 @@ class Options(ProgramCase):
         for option, numbers in (("--limit", ("0", "1000001", "1.0", "0x1", "1 ")), ("--batch", ("0", "1025"))):
             for number in (*numbers, *NO_NUMBERS):
                 self.assert_misused(["run", f"{option}={number}", "row.feed"], f"'{number}'" if number else "", option)
-        for option, number in (("--limit", "0"), ("--limit", "1000001"), ("--limit", "x"), ("--batch", "0"), ("--batch", "1025")):
+        for words in ("--limit 0", "--limit 1000001", "--limit x", "--batch 0", "--batch 1025"):
+            option, number = words.split()
             self.assert_misused(["run", option, number, "row.feed"], f"'{number}'", option)
         for words in ("run --limit", "run --limit --batch 1 row.feed", "--limit 1 run row.feed"):
             self.assert_misused(words, "--limit")
@@ -188,14 +187,14 @@ class Options(ProgramCase):
         multiples."""
         if is_unproved():
             self.skipTest("AddressSanitizer replaces the memory allocator, which makes the schedule")
-        for words, batch in (("--batch 1000", 1000), *((f"--batch {batch}", batch) for batch in (1, 2, 64, 1024)), ("", 1),
+        for words, batch in (("", 1), *((f"--batch {batch}", batch) for batch in (1, 2, 64, 1000, 1024)),
                              ("--limit 1000000 --batch 5", 5), ("--batch 7 --limit 70000", 7)):
             with self.subTest(words or "no --batch"):
                 self.assertEqual(self.batch_seen(words.split(), batch), batch)
 
     def batch_seen(self, words, batch):
-        """Returns the largest number that divides the result of each dump and each position where the result changes; the
-        feed of dumps takes turns with a feed that adds."""
+        """Returns the largest number that divides the result of each dump and each position where the result changes;
+        the feed of dumps takes turns with a feed that adds."""
         count = 16 * batch
         self.write({"dumps.feed": "dump\n" * count,
                     "adds.feed": "".join(f"add 10.{k >> 8}.{k & 255}.0/24 1 192.0.2.1\n" for k in range(count))})

@@ -52,7 +52,8 @@ class Parts(ProgramCase):
                     for prefix in given:
                         part = "".join(row + "\n" for row, network in zip(rows, networks) if meets(network, prefix))
                         for word in sorted({str(prefix), str(prefix).removesuffix("/32")}):
-                            ended = self.yarib("table", option, word, *more, "--batch", choice.choice(("1", "256")), *names)
+                            batch = choice.choice(("1", "256"))
+                            ended = self.yarib("table", option, word, *more, "--batch", batch, *names)
                             self.assert_ended(ended, part, message=word)
 
     def test_invalid_prefixes(self):
@@ -71,7 +72,8 @@ class Parts(ProgramCase):
             others = [f"{other} 10.0.0.0/8" for other in PARTS if other != option]
             for words in (*others, " ".join(others)):
                 for both in (f"{one} {words}", f"{words} {one}"):
-                    self.assert_refused(f"table {both} row.feed", "only one of --within, --covering and --exact may be given")
+                    self.assert_refused(f"table {both} row.feed",
+                                        "only one of --within, --covering and --exact may be given")
 
 
 def counts_text(rows):
@@ -94,7 +96,7 @@ def counted(line, names):
     return members
 
 
-# Catches a count without some length or feed, or without the last of either, or with routes for prefixes: `Counts.test_300_routes`.
+# Catches a count without some length or feed, or without the last of either, or with routes for prefixes.
 class Counts(ProgramCase):
     """The number of routes in each part of random tables, compared with the rows that the same command prints without
     `--count`; and counts of all feeds and lengths."""
@@ -110,8 +112,8 @@ class Counts(ProgramCase):
                 words = [*part, *more, *names]
                 lines = self.stdout("table", "--count", *words)
                 with self.subTest(" ".join(["--count", "--json", *part, *more])):
-                    found = [json.loads(line) for line in self.stdout("table", "--count", "--json", *words).splitlines()]
-                    self.assertEqual(found, [counted(line, names) for line in lines.splitlines()])
+                    found = map(json.loads, self.stdout("table", "--count", "--json", *words).splitlines())
+                    self.assertEqual(list(found), [counted(line, names) for line in lines.splitlines()])
 
     def test_max_feeds(self):
         prefixes = [prefix_of(10 << 24, length) for length in range(33)]
@@ -130,8 +132,8 @@ class Counts(ProgramCase):
 # Catches a total that counts prefixes, or the routes of the whole table: `Totals.test_300_routes`.
 # Catches a table without the line if no route is selected: `Totals.test_0_routes`.
 class Totals(ProgramCase):
-    """Random tables and parts of them with `--total`: what the same command prints without it, and then the number of these
-    lines."""
+    """Random tables and parts of them with `--total`: what the same command prints without it, and then the number of
+    these lines."""
 
     def assert_totals(self, count):
         _, names = self.random_table(random.Random(f"totals of {count}"), "totalled", count)
@@ -149,7 +151,6 @@ class Totals(ProgramCase):
         self.assert_misused("table --total --total row.feed", "--total")
 
 
-for case, compare, counts in ((Parts, Parts.assert_parts, (0, 1, 12, 300)), (Counts, Counts.assert_counts, (0, 1, 12, 300)),
-                              (Totals, Totals.assert_totals, (0, 1, 300))):
-    for count in counts:
+for count in (0, 1, 12, 300):
+    for case, compare in ((Parts, Parts.assert_parts), (Counts, Counts.assert_counts), (Totals, Totals.assert_totals)):
         setattr(case, f"test_{count}_routes", functools.partialmethod(compare, count))

@@ -1,10 +1,10 @@
 """Proves and builds the crate that dev/build/build names: the order of the crates, the prover's jobs, and the messages."""
-import collections
 import contextlib
 import fcntl
 import functools
 import os
 import pathlib
+import queue
 import re
 import shutil
 import signal
@@ -12,6 +12,7 @@ import subprocess
 import sys
 import tarfile
 import tempfile
+import threading
 import time
 
 from dev.build.built import LOGIC, PARTS, STATE, discard, is_read, is_whole, own, product, put, sources_sum
@@ -111,10 +112,6 @@ class Copy:
 # -- the prover's calls
 
 
-# The number of concurrent provers, as the machine was when the build began.
-lanes = functools.cache(provers)
-
-
 def commands(copy, crate, jobs, niceness):
     """Returns the commands that prove a crate and build its product."""
     words = ["nice", "-n", niceness, kit() / "bin/rattle", "build", "--jobs", jobs]
@@ -128,57 +125,86 @@ def commands(copy, crate, jobs, niceness):
     return [[*words, "--statements", "-o", made]]
 
 
-class Job:
-    """A crate that is being built: the remaining commands, and the one that runs."""
+def log_of(crate):
+    return STATE / f"{crate}.log"
 
-    def __init__(self, copy, crate, jobs, niceness):
-        self.crate, self.begun = crate, time.monotonic()
-        self.log, self.folder = open(STATE / f"{crate}.log", "wb"), copy.crates / crate
-        self.left = collections.deque(commands(copy, crate, jobs, niceness))
-        self.start()
 
-    def start(self):
-        words = [str(word) for word in self.left.popleft()]
-        # In its own session, so that only the builder gets a terminal's Ctrl-C, and ends it.
-        self.process = subprocess.Popen(words, cwd=self.folder, stdin=subprocess.DEVNULL, stdout=self.log,
-                                        stderr=subprocess.STDOUT, start_new_session=True)
+def says_proved(crate):
+    """Returns true if the prover's summary says that everything is proved, by this logic."""
+    summary = re.compile(rf"^logic=proved functions=.* sum={LOGIC}\b", re.M)
+    return summary.search(log_of(crate).read_text(errors="replace")) is not None
 
-    def goes_on(self):
-        """Returns true if it is still running; starts its next command if one succeeded."""
-        if self.process.poll() is None:
-            return True
-        if self.process.returncode == 0 and self.left:
-            self.start()
-            return True
-        self.log.close()
-        return False
 
-    def kill(self):
+class Provers:
+    """The processes that are at work, each of which is started and waited for by a thread of its own. A signal comes to the
+    main thread, so it can't leave a process that nobody knows."""
+
+    def __init__(self):
+        self.lock, self.running, self.is_stopped = threading.Lock(), {}, False
+        self.ended = queue.SimpleQueue()  # of each crate how its last command ended
+
+    def start(self, crate, each, folder):
+        """Starts the commands of a crate, each after the one before has succeeded; the status of the last is reported."""
+        threading.Thread(target=self.run, args=[crate, each, folder], daemon=True).start()
+
+    def run(self, crate, each, folder):
+        status = None
         try:
-            os.killpg(self.process.pid, signal.SIGKILL)
-        except ProcessLookupError:
-            pass
-        self.process.wait()
+            with open(log_of(crate), "wb") as log:
+                for words in each:
+                    if not (process := self.process(crate, words, folder, log)):
+                        return
+                    if status := process.wait():
+                        break
+        except OSError as error:
+            status = error
+        self.ended.put((crate, status))
+
+    def process(self, crate, words, folder, log):
+        """Returns a process, in its own session, so that only the builder gets a terminal's Ctrl-C, and ends it; or None if
+        all have been ended."""
+        with self.lock:
+            if not self.is_stopped:
+                self.running[crate] = subprocess.Popen([*map(str, words)], cwd=folder, stdin=subprocess.DEVNULL, stdout=log,
+                                                       stderr=subprocess.STDOUT, start_new_session=True)
+                return self.running[crate]
+
+    def next(self):
+        """Waits until the commands of a crate have ended, and returns the crate and the status."""
+        crate, status = self.ended.get()
+        if isinstance(status, OSError):
+            raise status
+        return crate, status
+
+    def stop(self):
+        """Ends all of them."""
+        with self.lock:
+            self.is_stopped = True
+        for process in self.running.values():
+            if process.poll() is None:
+                with contextlib.suppress(ProcessLookupError):
+                    os.killpg(process.pid, signal.SIGKILL)
+                process.wait()
 
 
 # -- the order of the crates
 
 
-class Plan:
-    """The crates that remain to be built, their estimated costs, and the one to start next."""
+class Build:
+    """The crates that remain to be built, their estimated costs, and those at work, each with the time when it began."""
 
-    def __init__(self, copy, crates):
-        self.left = set(crates)
+    def __init__(self, copy, crates, whole):
+        self.copy, self.left, self.whole, self.lanes = copy, set(crates), whole, provers()
         self.cost = {crate: copy.size(crate) + EACH + PROGRAM * is_program(crate) for crate in crates}
         self.chain = {}  # the cost of a crate and of the most expensive chain of crates that wait for it
         for crate in sorted(crates, key=lambda one: -len(below([one]))):
             above = [self.chain[one] for one in self.chain if crate in own(one)]
             self.chain[crate] = self.cost[crate] + max(above, default=0)
-        self.begun, self.done = time.monotonic(), {}
+        self.begun, self.done, self.at_work = time.monotonic(), {}, {}
 
-    def ready(self, at_work):
+    def ready(self):
         """Returns the crates that wait for no other, the one with the most expensive chain first."""
-        waiting = self.left - set(at_work)
+        waiting = self.left - set(self.at_work)
         free = [crate for crate in waiting if not self.left.intersection(below([crate]) - {crate})]
         return sorted(free, key=lambda crate: (-self.chain[crate], crate))
 
@@ -186,68 +212,49 @@ class Plan:
         """Returns a crate's jobs and niceness: the longest chain gets the processors, and other crates yield to it."""
         longest = max(self.chain[one] for one in self.left)
         is_first = self.chain[crate] == longest
-        return str(min(MOST_JOBS, lanes()) if is_first else 1), str(int(10 * (1 - self.chain[crate] / longest)))
+        return min(MOST_JOBS, self.lanes) if is_first else 1, int(10 * (1 - self.chain[crate] / longest))
 
-    def seconds_left(self, at_work):
+    def seconds_left(self):
         """Estimates the time from that of finished crates: of the longest remaining chain, or of all remaining work on all lanes."""
         pace = sum(self.done.values()) / sum(self.cost[crate] for crate in self.done)
-        spent = {job.crate: min((time.monotonic() - job.begun) / pace, 0.9 * self.cost[job.crate]) for job in at_work}
+        spent = {crate: min((time.monotonic() - begun) / pace, 0.9 * self.cost[crate]) for crate, begun in self.at_work.items()}
         left = {crate: self.cost[crate] - spent.get(crate, 0) for crate in self.left}
         chain = max(self.chain[crate] - spent.get(crate, 0) for crate in self.left)
-        return pace * max(chain, sum(left.values()) / lanes())
+        return pace * max(chain, sum(left.values()) / self.lanes)
+
+    def run(self):
+        """Builds the crates, each after its dependencies, and returns true if all are proved."""
+        at_work, is_well = Provers(), True
+        try:
+            while self.left:
+                for crate in self.ready()[: self.lanes - len(self.at_work)] if is_well else []:
+                    self.at_work[crate] = time.monotonic()
+                    at_work.start(crate, commands(self.copy, crate, *self.share(crate)), self.copy.crates / crate)
+                if not self.at_work:
+                    return False
+                is_well &= self.finish(*at_work.next())
+            return True
+        finally:
+            at_work.stop()
+
+    def finish(self, crate, status):
+        """Stores the product of a crate whose prover has ended, and reports that it is proved, or why it isn't."""
+        seconds = time.monotonic() - self.at_work.pop(crate)
+        if status != 0 or not self.copy.made(crate).exists() or not says_proved(crate):
+            killed = f": its prover was ended by signal {-status}, most likely for want of memory" if status < 0 else ""
+            say(f"{crate} is not proved{killed}; {log_of(crate)} says why{of_disk(self.copy)}")
+            return False
+        self.copy.keep(crate)
+        self.left.remove(crate)
+        self.done[crate] = seconds
+        rest = f", about {clock(self.seconds_left())} left" if self.left else ""
+        elapsed = clock(time.monotonic() - self.begun)
+        say(f"[{self.whole - len(self.left)} of {self.whole}] {crate} is proved, in {int(seconds)} s; {elapsed} elapsed{rest}")
+        return True
 
 
 def clock(seconds):
     return f"{int(seconds) // 60}:{int(seconds) % 60:02}"
-
-
-def build_all(copy, crates, whole):
-    """Builds crates, each after its dependencies, and returns true if all are proved. It reports progress out of `whole`
-    crates."""
-    plan, at_work, is_well = Plan(copy, crates), {}, True
-    try:
-        while plan.left:
-            for crate in plan.ready(at_work) if is_well else []:
-                if len(at_work) < lanes():
-                    with signals.put_off():
-                        at_work[crate] = Job(copy, crate, *plan.share(crate))
-            if not at_work:
-                return False
-            time.sleep(0.02)
-            for crate, job in [*at_work.items()]:
-                with signals.put_off():
-                    is_at_work = job.goes_on()
-                if not is_at_work:
-                    del at_work[crate]
-                    is_well &= finish(copy, plan, job, at_work, whole)
-        return True
-    finally:
-        for job in at_work.values():
-            job.kill()
-
-
-def finish(copy, plan, job, at_work, whole):
-    """Stores the product of a job, and reports that its crate is proved, or why it isn't."""
-    seconds = time.monotonic() - job.begun
-    if job.process.returncode != 0 or not copy.made(job.crate).exists() or not says_proved(job):
-        ended = job.process.returncode
-        killed = f": its prover was ended by signal {-ended}, most likely for want of memory" if ended < 0 else ""
-        say(f"{job.crate} is not proved{killed}; {STATE}/{job.crate}.log says why{of_disk(copy)}")
-        return False
-    copy.keep(job.crate)
-    plan.left.remove(job.crate)
-    plan.done[job.crate] = seconds
-    number = whole - len(plan.left)
-    rest = f", about {clock(plan.seconds_left(at_work.values()))} left" if plan.left else ""
-    elapsed = clock(time.monotonic() - plan.begun)
-    say(f"[{number} of {whole}] {job.crate} is proved, in {int(seconds)} s; {elapsed} elapsed{rest}")
-    return True
-
-
-def says_proved(job):
-    """Returns true if the prover's summary says that everything is proved, by this logic."""
-    summary = re.compile(rf"^logic=proved functions=.* sum={LOGIC}\b", re.M)
-    return summary.search(pathlib.Path(job.log.name).read_text(errors="replace")) is not None
 
 
 def of_disk(copy):
@@ -259,33 +266,12 @@ def of_disk(copy):
 # -- a build
 
 
-class Signals:
-    """Ends the build with the status of a signal, but not while a prover is being started, which would continue to run."""
-
-    def __init__(self):
-        self.is_put_off, self.came = False, None
-
-    def end(self, number, frame=None):
-        self.came = number
-        if not self.is_put_off:
-            # A second signal would interrupt the removal of what the build leaves. It isn't ignored by SIG_IGN: one that came
-            # just before that would be reported with a traceback.
-            for each in ENDING:
-                signal.signal(each, lambda number, frame: None)
-            sys.exit(128 + number)
-
-    @contextlib.contextmanager
-    def put_off(self):
-        self.is_put_off = True
-        try:
-            yield
-        finally:
-            self.is_put_off = False
-        if self.came:
-            self.end(self.came)
-
-
-signals = Signals()
+def end(number, frame):
+    """Ends the build with the status of a signal. A second signal would interrupt the removal of what the build leaves; it
+    isn't ignored by SIG_IGN, since one that came just before that would be reported with a traceback."""
+    for each in ENDING:
+        signal.signal(each, lambda number, frame: None)
+    sys.exit(128 + number)
 
 
 def locked():
@@ -335,7 +321,7 @@ def build_in(folder, crate):
     say(f"proving and building {len(wanted)} of {len(needed)} crates{first}")
     if first and is_program(crate):
         say("meanwhile ./try WORDS.. runs it unproved, in about a minute")
-    if not build_all(copy, wanted, len(needed)):
+    if not Build(copy, wanted, len(needed)).run():
         sys.exit(1)
     say(f"{crate} is built")
     return copy.product(crate)
@@ -344,7 +330,7 @@ def build_in(folder, crate):
 def build(crate):
     """Builds a program or a static library, unless another build has just done so; returns its path."""
     for number in ENDING:
-        signal.signal(number, signals.end)
+        signal.signal(number, end)
     try:
         toolchain()
         STATE.mkdir(parents=True, exist_ok=True)

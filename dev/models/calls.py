@@ -1,8 +1,8 @@
 """Calls of the program by their arguments, and how each has to end: status, standard output and standard error, to the
 byte. dev/models/calls.txt has them.
 
-The tests of the program make them, in a directory with their files. Each look-up, list and comparison that the pages show
-has to be one of these calls (dev/tests/test_pages.py).
+The tests of the program make them, in a directory with their files. Each look-up, list and comparison that the pages
+show has to be one of these calls (dev/tests/test_pages.py).
 """
 import pathlib
 import re
@@ -11,7 +11,8 @@ from typing import NamedTuple
 from dev.crates import TOP
 
 TEXT = pathlib.Path(__file__).with_suffix(".txt")
-TUTORIAL = {name: (TOP / "examples" / name).read_text() for name in ("north.feed", "south.feed", "east.feed", "packets.txt")}
+TUTORIAL = {name: (TOP / "examples" / name).read_text()
+            for name in ("north.feed", "south.feed", "east.feed", "packets.txt")}
 # Files that each test of the program has, and those that no line of calls.txt can have.
 ROWS = {"row.feed": "add 10.0.0.0/8 100 192.0.2.1\n", "empty.feed": "", "faulty.feed": "frob\n"}
 CR_FILES = {"cr.txt": "10.0.0.1\r\n", "a-version-with-a-carriage-return.feed": "version 2\r\npurge\n"}
@@ -35,8 +36,9 @@ def call_of(text):
     """Returns the call that calls.txt has after `$ `."""
     words, *lines = text.splitlines()
     status = int(lines.pop()[2:]) if lines and lines[-1].startswith("= ") else 0
-    output, errors = ("".join(f"{line}\n" for line in lines if line.startswith("!") == is_error) for is_error in (False, True))
-    return Call(words.split(), (status, output, re.sub("^! ?", "", errors, flags=re.M)))
+    output = "".join(f"{line}\n" for line in lines if not line.startswith("!"))
+    errors = "".join(f"{line.removeprefix('!').removeprefix(' ')}\n" for line in lines if line.startswith("!"))
+    return Call(words.split(), (status, output, errors))
 
 
 def listed(name):

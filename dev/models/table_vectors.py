@@ -19,9 +19,9 @@ and their number. A text is `x` and its bytes as hexadecimal
 digits; the answer is the number of its routes that are loaded, the number of its first faulty line, from 1, and the fault:
 `line`, `bits`, `length`, `exists` or `full`. If no line is faulty they are `0` and `-`.
 """
+import argparse
 import pathlib
 import random
-import sys
 
 from dev.models.table_model import MAX_FEEDS, Table, block, differences, dotted
 
@@ -291,4 +291,6 @@ def write(file):
 
 
 if __name__ == "__main__":
-    write(sys.argv[1])
+    reader = argparse.ArgumentParser(description=__doc__, formatter_class=argparse.RawDescriptionHelpFormatter)
+    reader.add_argument("file")
+    write(reader.parse_args().file)

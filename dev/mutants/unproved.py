@@ -19,16 +19,13 @@ import re
 from typing import NamedTuple
 
 from dev.crates import TOP
+from dev.mutants.mutant_lists import BadMutant, sections_of
 
 FORM = re.compile(r"([\w-]+)\n\n```\nfile: (\S+)\nold: (.+)\nnew: ?(.*)\n(?:in: ([\w.]+)\n)?noticed by: (.+)\n```\n+")
 C_FUNCTION = re.compile(r"^(?![\s#/}])[^\n;]*?(\w+)\([^;{]*\)\n\{\n.*?^\}\n", re.M | re.S)
 GO_HEAD = re.compile(r"^()func (?:\(\w+ \*?(?P<type>\w+)\) )?(?P<name>\w+)\(")
 RUST_HEAD = re.compile(r"^( *)(?:pub(?:\(\w+\))? )?(?:const |unsafe |extern \"C\" )*fn (?P<name>\w+)")
 RUST_TYPE = re.compile(r"^impl\b.*?(\w+)(?:<[^{]*>)? (?:where .*)?\{$")
-
-
-class BadMutant(Exception):
-    """The reason why a mutant can't be made."""
 
 
 class Mutant(NamedTuple):
@@ -116,9 +113,8 @@ def functions(file, text):
 
 def mutants_of(language):
     """Returns the mutants of a language's list, in order."""
-    text = (TOP / "bindings" / language / "must-fail/mutants.md").read_text()
     found = []
-    for section in re.split(r"^## ", text, flags=re.M)[1:]:
+    for section in sections_of(TOP / "bindings" / language / "must-fail/mutants.md"):
         form = FORM.fullmatch(section)
         if not form:
             raise BadMutant(f"{section.partition(chr(10))[0]} isn't written as a mutant is")

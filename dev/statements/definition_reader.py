@@ -59,78 +59,66 @@ def spec_module(module):
 
 
 def parse_module(module, file, text=None):
-    """Returns the definitions of a file, or of another text of it, by name."""
-    reader = ModuleReader(module, file, (file.read_text() if text is None else text).split("\n"))
-    while reader.number < len(reader.lines):
-        reader.read_line()
-    for definition in reader.found.values():
-        while not definition.lines[-1].strip():
-            definition.lines.pop()
-        margin = indent_of(definition.lines[0])
-        definition.lines = [line[margin:] for line in definition.lines]
-    return reader.found
+    """Returns the definitions of a file, or of another text of it, by name. A definition has the lines of all its cases."""
+    found, last = {}, None
+    for number, comment, lines, margin, context in items_of((file.read_text() if text is None else text).split("\n")):
+        head = lines[0].strip()
+        if re.match(r"(pub )?(use|mod|open)\b", head):
+            last = None
+            continue
+        declared = DECLARED.match(head)
+        name = declared[2] if declared and head[0] not in "]})" else "unfolding"
+        if name == "unfolding" or name in found and not re.match(r"(abbrev|unfoldable|pub|record|data) ", head):
+            last = last if name == "unfolding" else found[name]
+        else:
+            last = found[name] = Definition(f"{module}.{name}", file, number, comment, [], context)
+        if last:
+            last.lines += [line[margin:] for line in lines]
+    return found
 
 
-class ModuleReader:
-    """Reads a file line by line. It keeps the definitions that it has found, the comment above the next one, the current
-    one, and the margins of the surrounding sections, each with its parameters."""
-
-    def __init__(self, module, file, lines):
-        self.module, self.file, self.lines, self.number = module, file, lines, 0
-        self.found, self.comment, self.current, self.levels = {}, [], None, [(0, None)]
-
-    def read_line(self):
-        line = self.lines[self.number]
-        self.number += 1
+def items_of(lines):
+    """Yields what begins at the margin of the file or of a section: its line, the comment above it, its lines, the margin, and
+    the parameters of the sections around it."""
+    comment, sections, number = [], [(0, None)], 0
+    while number < len(lines):
+        line = lines[number]
+        number += 1
         if not line.strip():
-            self.read_blank()
-        elif self.current and indent_of(line) > self.levels[-1][0]:
-            self.current.lines.append(line)
+            comment = []
+            continue
+        while indent_of(line) < sections[-1][0]:
+            sections.pop()
+        margin = sections[-1][0]
+        if line.strip().startswith("--"):
+            comment.append(line.strip()[2:].strip())
+        elif re.match(r"module _|mutual\b", line.strip()):
+            number, parameters = read_section(lines, number - 1)
+            sections.append((indent_of(line) + 2, parameters))
+            comment = []
         else:
-            while indent_of(line) < self.levels[-1][0]:
-                self.levels.pop()
-            self.read_at_margin(line, line.strip())
+            end = end_of_item(lines, number, margin)
+            own = [line, *filter(str.strip, lines[number:end])]
+            yield number, comment, own, margin, [parameters for _, parameters in sections if parameters]
+            comment, number = [], end
 
-    def read_blank(self):
-        """Continues a definition after an empty line if the next line is indented."""
-        more = self.lines[self.number] if self.number < len(self.lines) else ""
-        if not self.current:
-            self.comment = []
-        elif indent_of(more) <= self.levels[-1][0]:
-            self.current = None
 
-    def read_at_margin(self, line, text):
-        if text.startswith("--"):
-            self.comment, self.current = [] if self.current else self.comment, None
-            self.comment.append(text[2:].strip())
-        elif re.match(r"(pub )?(use|mod|open)\b", text):
-            self.comment, self.current = [], None
-        elif re.match(r"module _|mutual\b", text):
-            self.read_section(text)
-        else:
-            self.read_declaration(line, text)
+def end_of_item(lines, number, margin):
+    """Returns where an item ends: before a line at its margin, or before an empty line, unless an indented one follows it."""
+    while number < len(lines) and (indent_of(lines[number]) > margin or not lines[number].strip()
+                                   and number + 1 < len(lines) and indent_of(lines[number + 1]) > margin):
+        number += 1
+    return number
 
-    def read_section(self, head):
-        margin = indent_of(self.lines[self.number - 1]) + 2
-        while not re.search(r"\bwhere$|^mutual$", head):
-            head += " " + self.lines[self.number].strip()
-            self.number += 1
-        said = re.fullmatch(r"module _ ?(.*?) ?where", head)
-        self.levels.append((margin, said[1] if said else None))
-        self.comment, self.current = [], None
 
-    def read_declaration(self, line, text):
-        declared = DECLARED.match(text)
-        name = declared[2] if declared and text[0] not in "]})" else "unfolding"
-        if name in self.found and not re.match(r"(abbrev|unfoldable|pub|record|data) ", text):
-            self.current = self.found[name]
-        if name == "unfolding" or self.current and name == self.current.name:
-            if self.current:
-                self.current.lines.append(line)
-        else:
-            context = [params for _, params in self.levels if params]
-            self.current = Definition(f"{self.module}.{name}", self.file, self.number, self.comment, [line], context)
-            self.found[name], self.comment = self.current, []
+def read_section(lines, number):
+    """Returns the number of the line after a section's head, and its parameters."""
+    head = ""
+    while not re.search(r"\bwhere$|^mutual$", head):
+        head = f"{head} {lines[number].strip()}".strip()
+        number += 1
+    parameters = re.fullmatch(r"module _ ?(.*?) ?where", head)
+    return number, parameters and parameters[1]
 
 
 @functools.cache

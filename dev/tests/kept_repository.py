@@ -4,7 +4,7 @@ import os
 import shutil
 
 from dev.crates import TOP
-from dev.testing import TestCase
+from dev.testing import TestCase, environment
 
 RT = """#!/bin/sh
 case $1 in
@@ -20,7 +20,7 @@ REFUSES = """for file in proofs/H0_*Examples.antt; do
   if [ -e "$file" ]; then echo "$file:$(wc -l <"$file"):1: error: it isn't so"; fi
 done"""
 PROVER = f"""#!/bin/sh
-echo "$*" >>"$NOTES"
+(IFS='|'; echo "$*") >>"$NOTES"
 eval "$MEANWHILE"
 if grep -qs wrong src/lib.rt; then exit 1; fi
 {WRITES}
@@ -100,7 +100,7 @@ class KeptTest(TestCase):
         self.notes.write_text("")
         names = {"PATH": f"{self.kit}/bin:{os.environ['PATH']}", "KIT": str(self.kit), "NOTES": str(self.notes),
                  "MEANWHILE": meanwhile, "XDG_CACHE_HOME": str(self.folder / "cache")}
-        ended = self.call(self.top / tool, *words, env=os.environ | names, cwd=self.top)
+        ended = self.call(self.top / tool, *words, env=environment() | names, cwd=self.top)
         return ended, self.notes.read_text().splitlines()
 
     def replace(self, name, old, new):

@@ -1,4 +1,4 @@
-"""The pages of the repository, and what they show: links, fenced blocks, and commands with their outputs. A page shows a
+"""The pages of the repository, and what they show: fenced blocks, and commands with their outputs. A page shows a
 command in a fenced block as `$ COMMAND`, with its output below."""
 import os
 import re
@@ -7,7 +7,8 @@ import shlex
 from dev.crates import TOP
 from dev.testing import TestCase
 
-FOLDERS = (".", "docs", "dev/statements", "convert", "map", "bindings/c", "bindings/python", "bindings/rust", "bindings/go")
+FOLDERS = (".", "docs", "dev/statements", "convert", "map", "bindings/c", "bindings/python", "bindings/rust",
+           "bindings/go")
 PAGES = sorted(page for folder in FOLDERS for page in (TOP / folder).glob("*.md"))
 # Directories that aren't the repository's own.
 BUILT = {".git", "out", "target", "__pycache__"}

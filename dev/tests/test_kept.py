@@ -24,7 +24,7 @@ class Archive(KeptTest):
 
     def test_arguments_for_the_prover(self):
         _, [line] = self.run_tool("dev/build/archive", "above")
-        words = line.split()
+        words = line.split("|")
         named = ("--crate-name", "--crate-type", "--jobs", "--toolchain", "--backend", "--incremental")
         self.assertEqual([words[0], *(words[words.index(word) + 1] for word in named)], [
             "build", "above", "staticlib", "1", f"{self.kit}/toolchain", "llvm", f"{self.top}/crates/above/out/incremental"])

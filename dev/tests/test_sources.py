@@ -23,6 +23,16 @@ def names_in_lists(crate):
     return [one.name for one in [*mutants_of(crate), *changes_of(crate)]]
 
 
+def is_of_trait(path, function):
+    """Returns true for a method of a trait, whose clauses are the trait's: the path names the type and the trait."""
+    owner = path.split("::")[-2].partition("+")[0]
+    return owner[0].isupper() and owner != function.owner
+
+
+def has_clause(function, label):
+    return bool(re.search(rf"^\s*ensures\*? {label} ", "\n".join(function.written()[:function.clauses_end()]), re.M))
+
+
 def is_declared(name, files):
     return any(re.search(rf"^\s*(?:pub )?{re.escape(name)} :", file.read_text(), re.M) for file in files)
 
@@ -36,7 +46,7 @@ def comments_of_rattle(file):
 
 
 def comments_of_python(file):
-    """Yields each comment that describes a mutant, and whether the line below it is a test's, or a function's that is used."""
+    """Yields each comment that describes a mutant, and whether the line below is a test's or a used function's."""
     text, comment = file.read_text(), []
     for line in text.splitlines():
         if line.lstrip().startswith("# "):
@@ -49,7 +59,7 @@ def comments_of_python(file):
 
 
 def cited(text):
-    """Yields each name of another crate that a test or a bench cites: the crate, specs or proofs, the module, the name."""
+    """Yields each name of another crate that a test or a bench cites, with the file that has to have it."""
     named = re.findall(r"\bRattle\.(\w+)\.(specs|proofs)\.((?:\w+\.)+)\{([^}]*)\}", text)
     named += [(crate, part, path.replace("::", "."), name)
               for crate, part, path, name in re.findall(r"\b(\w+)::(specs|proofs)::((?:\w+::)+)([\w-]+)", text)]
@@ -70,6 +80,16 @@ class Lists(Rules):
         self.assert_none(f"{name}: {fault}" for name, fault, _ in faults if fault)
         self.assert_none(f"{name} names no goal; dev/mutants/mutants prints it" for name, _, goal in faults if not goal)
 
+    def test_goals_are_clauses(self):
+        """If a mutant leaves a clause of its function open, the function has it: a dropped clause is missed here."""
+        goals = [(crate, one, goal[1], source(CRATES / crate / one.file).named(one.function))
+                 for crate in mutant_lists.listing_crates() for one in mutants_of(crate)
+                 if (goal := re.match(r"returns.*clause-(\w+)$", one.goal or ""))]
+        self.assertGreater(len(goals), 50)
+        self.assert_none(f"crates/{crate}/must-fail: {one.name}: {one.function} has no clause `{label}`"
+                         for crate, one, label, function in goals
+                         if not is_of_trait(one.function, function) and not has_clause(function, label))
+
     def test_changes_have_examples(self):
         changes = [(crate, change) for crate in listing_crates() for change in changes_of(crate)]
         self.assertGreater(len(changes), 50)
@@ -89,11 +109,14 @@ class Lists(Rules):
         """Each comment that describes a mutant which no clause refuses is at a test, and ends with a full stop."""
         files = [TOP / (module.replace(".", "/") + ".py") for module in runner.modules()]
         files += [*(TOP / "tests/libraries").rglob("*.rt.in"), *CRATES.glob("*/src/**/*.rt")]
-        found = {file: list(comments_of_python(file) if file.suffix == ".py" else comments_of_rattle(file)) for file in files}
+        found = {file: list(comments_of_python(file) if file.suffix == ".py" else comments_of_rattle(file))
+                 for file in files}
         self.assertGreater(sum(map(len, found.values())), 50)
         self.assert_none(f"{name_of(file)}: `{comment}` is at no test, or ends without a stop"
-                         for file, comments in found.items() for comment, is_test in comments if not (is_test and comment.endswith(".")))
-        self.assert_none(f"{name_of(file)}: a comment describes a mutant at no function" for file, comments in found.items()
+                         for file, comments in found.items() for comment, is_test in comments
+                         if not (is_test and comment.endswith(".")))
+        self.assert_none(f"{name_of(file)}: a comment describes a mutant at no function"
+                         for file, comments in found.items()
                          if sum(comment.count(MARK) for comment, _ in comments)
                          != len(re.findall(rf"^ *(?:///?|#) {MARK}", file.read_text(), re.M)))
 
@@ -122,12 +145,14 @@ class Sources(Rules):
         self.assert_ended(call([sys.executable, TOP / "dev/statements/reach"]))
 
     def test_accesses_of_the_lock(self):
-        """The running lock and the shared table share only the lock's table among threads, and access it by nothing else."""
+        """The lock and the shared table share only the lock's table among threads, and access it by nothing else."""
         self.assert_ended(call([sys.executable, TOP / "dev/statements/accesses", "--check"]))
 
     def test_converters_find_modules_in_their_own_directory(self):
-        files = [file for folder in ("convert", "convert/samples", "bindings/python") for file in (TOP / folder).iterdir()]
-        self.assert_none(f"{name_of(file)}: changes where Python looks for modules; put them into dev/" for file in files
+        files = [file for folder in ("convert", "convert/samples", "bindings/python")
+                 for file in (TOP / folder).iterdir()]
+        self.assert_none(f"{name_of(file)}: changes where Python looks for modules; put them into dev/"
+                         for file in files
                          if file.is_file() and re.search(r"\bsys\.path\b", file.read_text(errors="replace")))
 
     def test_runner_finds_each_test(self):

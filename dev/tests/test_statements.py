@@ -1,5 +1,5 @@
 """Changes laws and pages in a copy of the repository: `dev/statements/statement --check` has to refuse each change that
-means something, and no other. Pages have each word of definitions, types, clauses and their comments. Needs the toolchain."""
+means something, and no other. Pages have each word of definitions, types, clauses and their comments."""
 import re
 import shutil
 
@@ -16,27 +16,33 @@ WORDS = "dev/statements/statement_pages.toml"
 OF_SIZES = "result ≢ DONE → (blocks.new ≡ blocks.old) × (routers.new ≡ routers.old)"
 # Changes of one place, each refused since a page differs: a name, the file, the old and the new text, and the page.
 CHANGES = (
-    ("equal journals only if one is empty", LAWS, "asked j ≡ asked k → j ≡ k", "asked j ≡ asked k → j ≡ [] → j ≡ k", "STATEMENT-LIBRARIES"),
+    ("equal journals only if one is empty", LAWS, "asked j ≡ asked k → j ≡ k", "asked j ≡ asked k → j ≡ [] → j ≡ k",
+     "STATEMENT-LIBRARIES"),
     ("best routes suffice only in the empty table", LAWS, "IsTable table → look_up addr (best_routes table)",
      "IsTable table → table ≡ [] → look_up addr (best_routes table)", "STATEMENT-LIBRARIES"),
     ("the first match is the answer only in the empty table", LAWS, "× (slice_get (look_up_all addr table) 0",
      "× (table ≡ [] → slice_get (look_up_all addr table) 0", "STATEMENT-LIBRARIES"),
     ("a lock's table of another type", "crates/ya_lock/src/tree_lock.rt", "    pub(crate) table: LockTable<V>,",
      "    pub(crate) table: FreeTable<V>,", "STATEMENT-LOCK"),
-    ("another definition of the whole promise", "docs/LIBRARY-C.md", "AnswersByNumber view.now", "AnswersByNumber view.old", "LIBRARY-C"),
-    ("another number of the promise's definitions", "docs/LIBRARY-C.md", " definitions of ", "9 definitions of ", "LIBRARY-C"),
+    ("another definition of the whole promise", "docs/LIBRARY-C.md", "AnswersByNumber view.now",
+     "AnswersByNumber view.old", "LIBRARY-C"),
+    ("another number of the promise's definitions", "docs/LIBRARY-C.md", " definitions of ", "9 definitions of ",
+     "LIBRARY-C"),
     ("a clause that is gone", VIEWS, f"    ensures silent {{ {OF_SIZES} }}\n", "", "STATEMENT-LIBRARIES"),
-    ("two statuses with one number", "crates/yarib_c/src/status.rt", "pub const NOTHING: u32 = 1;", "pub const NOTHING: u32 = 0;",
-     "STATEMENT-LIBRARIES"),
+    ("two statuses with one number", "crates/yarib_c/src/status.rt", "pub const NOTHING: u32 = 1;",
+     "pub const NOTHING: u32 = 0;", "STATEMENT-LIBRARIES"),
 )
 # Clauses of the C library that say less, each refused by the page of the libraries: a name, the old and the new text.
 WEAKER = (
     ("an argument that may change", OF_SIZES, "result ≢ DONE → blocks.new ≡ blocks.old"),
     ("arguments of which one may change", OF_SIZES, OF_SIZES.replace(" × ", " ⊎ ")),
     ("a condition that never holds", OF_SIZES, OF_SIZES.replace("DONE", "result")),
-    ("a handle that changes", "ensures same { held_in table.new ≡ held_in table.old }", "ensures same { held_in table.old ≡ held_in table.old }"),
-    ("a status of an empty handle", "result ≡ NOTHING → held_in table.old ≡ None", "result ≡ NOTHING → held_in table.new ≡ None"),
-    ("the reason of another status", "result ≡ BAD_SIZE → length numbers.old ≢", "result ≡ DONE → length numbers.old ≢"),
+    ("a handle that changes", "ensures same { held_in table.new ≡ held_in table.old }",
+     "ensures same { held_in table.old ≡ held_in table.old }"),
+    ("a status of an empty handle", "result ≡ NOTHING → held_in table.old ≡ None",
+     "result ≡ NOTHING → held_in table.new ≡ None"),
+    ("the reason of another status", "result ≡ BAD_SIZE → length numbers.old ≢",
+     "result ≡ DONE → length numbers.old ≢"),
     ("a reason that isn't that of `order`", "result ≡ WRONG_KIND → HandleHolds table.old (λ held. ¬ HasFib held)",
      "result ≡ WRONG_KIND → HandleHolds table.old (λ held. HasFib held)"),
     ("one more status", "ensures known { IsOneOf (DONE ∷ NOTHING ∷ WRONG_KIND ∷ []) result }",
@@ -52,7 +58,8 @@ class Pages(TestCase):
 
     def setUp(self):
         for folder in ("dev", "docs", "crates"):
-            shutil.copytree(TOP / folder, self.folder / folder, ignore=shutil.ignore_patterns("__pycache__", "out", "must-fail"))
+            shutil.copytree(TOP / folder, self.folder / folder,
+                            ignore=shutil.ignore_patterns("__pycache__", "out", "must-fail"))
         for name in ("README.md", "crates.txt"):
             shutil.copy(TOP / name, self.folder / name)
 
@@ -85,7 +92,8 @@ class Pages(TestCase):
 
     # Catches a page that leaves out a clause of the C library, or a word of it.
     def test_weaker_clauses(self):
-        functions = [f"yarib_c::views::{name}" for name in re.findall(r'^pub extern "C" fn (\w+)', (TOP / VIEWS).read_text(), re.M)]
+        names = re.findall(r'^pub extern "C" fn (\w+)', (TOP / VIEWS).read_text(), re.M)
+        functions = [f"yarib_c::views::{name}" for name in names]
         as_it_is = self.call(self.folder / "dev/statements/statement", *functions).stdout
         for name, old, new in WEAKER:
             with self.subTest(name):
@@ -113,8 +121,9 @@ class Pages(TestCase):
 
     # Catches a front page that says another number of lines than a page or a chapter has, or doesn't name a page.
     def test_numbers_of_lines(self):
-        for link in (" lines](docs/STATEMENT-RUN.md)", "](docs/STATEMENT-LOCK.md#the-running-lock)"):
-            with self.subTest(link):
+        for name, link in (("a page's", " lines](docs/STATEMENT-RUN.md)"),
+                           ("a chapter's", "](docs/STATEMENT-LOCK.md#the-running-lock)")):
+            with self.subTest(name):
                 restore = self.change("README.md", link, "9" + link)
                 self.assert_refused("README.md is not what dev/statements/statement --write would write")
                 restore()

@@ -8,7 +8,7 @@ import subprocess
 import unittest
 
 from dev.crates import TOP
-from dev.testing import TestCase, needs_command
+from dev.testing import TestCase, environment, needs_command
 
 RT = "#!/bin/sh\necho stand-in-1 logic 0123456789abcdef\n"
 FILES = {"top/crates.txt": "small:\n", "top/.gitignore": "out/\n*.pyc\n", "top/changed.rt": "//\n", "top/crates/small/src/lib.rt": "//\n",
@@ -27,7 +27,7 @@ class VerdictTest(TestCase):
         for name in ("dev/__init__.py", "dev/crates.py", "dev/build/__init__.py", "dev/build/verdict"):
             (self.top / name).parent.mkdir(parents=True, exist_ok=True)
             shutil.copy(TOP / name, self.top / name)
-        self.environment = {name: value for name, value in os.environ.items() if not name.startswith("GIT_")} | {
+        self.environment = {name: value for name, value in environment().items() if not name.startswith("GIT_")} | {
             "HOME": str(self.home), "XDG_CONFIG_HOME": str(self.home), "GIT_CONFIG_NOSYSTEM": "1", "PYTHONDONTWRITEBYTECODE": "1",
             "PATH": f"{self.folder}/bin:{os.environ['PATH']}"}
         self.git("init", "--quiet", "--initial-branch=main")
