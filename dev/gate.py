@@ -369,11 +369,11 @@ def run_only(patterns):
     """Runs the tests whose names, or whose subTests' names, match one of these patterns. It judges the proved program if it is
     built, and else the unproved one."""
     known, _ = expected.read()
-    forms = [pattern if any(sign in pattern for sign in "*?") else f"*{pattern}*" for pattern in patterns]
 
     def matches(test):
-        parts = known.get(test, (None, ()))[1]
-        return any(fnmatch.fnmatchcase(name, form) for name in (test, *(f"{test} {part}" for part in parts)) for form in forms)
+        named = [test, *(f"{test} {part}" for part in known.get(test, (None, ()))[1])]
+        return any(fnmatch.fnmatchcase(name, pattern.replace("[", "[[]")) if set(pattern) & set("*?") else pattern in name
+                   for pattern in patterns for name in named)
 
     chosen = {module: list(filter(matches, tests)) for module, tests in runner.names().items()}
     if not any(chosen.values()):
