@@ -1,6 +1,5 @@
 """Texts of feeds that several scripts run, and their outputs."""
 import functools
-import pathlib
 
 from dev.models.table_model import dotted, row, shown
 
@@ -27,14 +26,6 @@ withdraw {feed}.0.0.0/8
 purge
 add {feed}.2.0.0/16 1 192.0.2.3
 """
-
-
-def written(name, texts):
-    """The names of files with these texts."""
-    paths = [pathlib.Path(f"{name}{place}.feed") for place in range(1, len(texts) + 1)]
-    for path, text in zip(paths, texts):
-        path.write_text(text)
-    return paths
 
 
 def many_routes(count):
