@@ -16,7 +16,7 @@ from dev.testing import TestCase, call, environment, needs_command
 # The modules of tests, with their constants.
 MODULES = {"dev.tests.test_pages": "", "dev.tests.test_build": "", "tests.test_rows": 'NEEDS = {"program"}',
            "tests.test_sizes": 'NEEDS = {"program"}\nPROVED = True', "bindings.tests.test_c": 'NEEDS = {"library"}',
-           "tests.test_costs": 'NEEDS = {"program"}\nPROVED = ALONE = True'}
+           "tests.test_costs": 'NEEDS = {"program"}\nPROVED = True\nALONE = True'}
 QUICK = {"dev.tests.test_pages", "dev.tests.test_build", "tests.test_rows"}
 # How many tests each tool lists.
 LISTED = {"mutants": 4, "definitions": 2}

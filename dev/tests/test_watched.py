@@ -23,13 +23,14 @@ class Watched(TestCase):
     def test_ends(self):
         for name, (command, ending) in COMMANDS.items():
             with self.subTest(name):
-                self.assertEqual(watched(command, seconds=8), ending)
+                # The limit decides only about what has no verdict.
+                self.assertEqual(watched(command, seconds=8 if ending is None else 300), ending)
 
     def test_one_that_polls_what_waits(self):
         poller = f"import subprocess, time\nchild = subprocess.Popen([{sys.executable!r}, '-c', {WAIT!r}])\n" \
                  "while child.poll() is None:\n    time.sleep(0.01)\n"
         lines = []
-        self.assertEqual(watched([sys.executable, "-c", poller], seconds=60, pollers=[name()], say=lines.extend), WAITS)
+        self.assertEqual(watched([sys.executable, "-c", poller], seconds=300, pollers=[name()], say=lines.extend), WAITS)
         self.assertIn(WAIT, lines[-1])
 
 
