@@ -45,7 +45,7 @@ cc -o example /usr/share/doc/libyarib-dev/examples/example.c $(pkg-config --cfla
 ./example
 test -e /usr/lib/x86_64-linux-gnu/cmake/yarib/yarib-config.cmake
 gzip -cd /usr/share/man/man3/yarib.3.gz | grep -q '^.SH TYPES AND CALLS'
-python3 /usr/share/doc/python3-yarib/examples/example.py
+python3 -B /usr/share/doc/python3-yarib/examples/example.py
 """
 # How an example of Go or Rust is built of the archive of its sources, in which directory, as which file, and how a test of
 # the archive is run by its test vectors.
