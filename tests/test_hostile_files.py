@@ -201,7 +201,10 @@ class LongFilesAndPipes(FileCase):
     # Catches a pipe that is opened although an earlier file can't be read.
     def test_a_pipe_behind_what_cannot_be_read(self):
         for name, locked in (("a directory", self.folder), ("missing", "missing"), ("a file", self.write_only())):
-            if locked is not None:
+            if locked is None:
+                with self.subTest(name):
+                    self.skipTest("root may read every file here")
+            else:
                 self.assert_fed(name, self.ONE_BY_ONE, ["table", "long", "other", locked, "pipe"], True,
                                 stderr=f"yarib: cannot read {locked}\n", returncode=4)
 

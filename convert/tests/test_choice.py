@@ -29,6 +29,10 @@ def check_sample(test, sample):
     test.assertIn(sample.note, ended.stderr)
 
 
-for case in (Bgpdump, Frr, Gobgp, Bird):
-    samples = getattr(choice_samples, case.__name__.upper())
-    add_tests(case, "", check_sample, {sample.name: (sample,) for sample in samples})
+def add_samples(*cases):
+    """Adds a test method for each sample of the daemon that the class is named after."""
+    for case in cases:
+        add_tests(case, "", check_sample, {sample.name: (sample,) for sample in getattr(choice_samples, case.__name__.upper())})
+
+
+add_samples(Bgpdump, Frr, Gobgp, Bird)
