@@ -112,8 +112,9 @@ class Release:
         tree.files["usr/bin/yarib"] = (staged["bin/yarib.in"][0].replace(b"@PREFIX@", b"/usr"), 0o755)
         tree.files["usr/share/zsh/vendor-completions/_yarib"] = staged["share/zsh/site-functions/_yarib"]
         tree.include(self.tools, "usr/")
+        # Bytecode that root's calls would leave isn't the package's, so dpkg would not remove it.
         for path, (content, mode) in [*tree.files.items()]:
-            tree.files[path] = (content.replace(b"#!/usr/bin/env python3\n", b"#!/usr/bin/python3\n", 1), mode)
+            tree.files[path] = (content.replace(b"#!/usr/bin/env python3\n", b"#!/usr/bin/python3 -B\n", 1), mode)
         for path in [path for path in tree.files if path.startswith("usr/share/man/")]:
             tree.compress(path)
         tree.include(documents(self.evidence, is_zipped=True), "usr/share/doc/yarib/")

@@ -2,11 +2,10 @@
 """Runs `yarib` on very long texts and full Internet tables, and prints the time and memory for each line, byte or
 route.
 
-It is run by hand: it takes some minutes, and up to 8 GB of memory. It runs texts of 1 to 10 million lines, lines of 100 MB to
-1 GB, and the tables of 1, 8 and 32 peers with 1,050,000 routes each. The script convert/bgpdump-to-feeds makes these tables
-from a dump. Each best route is compared with the choice by BGP's rules, and the answers to 20,000 addresses with a plain
-longest match. It is called like the benchmarks, with --store and --default-memory.
-"""
+It is run by hand: it takes some minutes, and up to 8 GB of memory. It runs texts of 1 to 10 million lines, lines of 100
+MB to 1 GB, and the tables of 1, 8 and 32 peers with 1,050,000 routes each. The script convert/bgpdump-to-feeds makes
+these tables from a dump. Each best route is compared with the choice by BGP's rules, and the answers to 20,000
+addresses with a plain longest match. It is called like the benchmarks, with --store and --default-memory. """
 import itertools
 import os
 import pathlib
@@ -139,13 +138,13 @@ CASES = {case.__name__: case for case in (many_lines, long_lines, full_tables)}
 
 def main():
     parser = results.reader(__doc__)
-    parser.add_argument("program", nargs="?", type=lambda word: pathlib.Path(word).resolve(), help="default: it is built first")
+    parser.add_argument("program", nargs="?", type=pathlib.Path, help="default: it is built first")
     parser.add_argument("cases", nargs="*", metavar="CASE", help=f"default: {', '.join(CASES)}")
     args = parser.parse_args()
     if unknown := set(args.cases) - set(CASES):
         parser.error(f"no case {', '.join(sorted(unknown))}")
     results.begun(args)
-    program = args.program or built()
+    program = (args.program or built()).resolve()
     for name in args.cases or CASES:
         with tempfile.TemporaryDirectory(prefix="yarib-large-") as folder:
             os.chdir(folder)

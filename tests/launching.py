@@ -1,5 +1,6 @@
-"""Calls of the program with the memory settings that the launchers make for each subcommand, and feeds for them. With the C
-library's default, many threads share several arenas, which matters with many threads and if large pages are filled."""
+"""Calls of the program with the memory settings that the launchers make for each subcommand, and feeds for them. With
+the C library's default, many threads share several arenas, which matters with many threads and if large pages are
+filled."""
 from dev.models.table_model import csv_of, dotted
 from dev.testing import TestCase, environment, launched
 
@@ -15,8 +16,8 @@ def apart(count, distance=2):
 
 
 def printed(form, places, *words):
-    """Returns the lines of this form for these places: each place is put between the parts of the form. With --csv the header
-    of the command of these words comes first."""
+    """Returns the lines of this form for these places: each place is put between the parts of the form. With --csv the
+    header of the command of these words comes first."""
     parts = f"{form}\n".split("{0}")
     return "".join([csv_of(words, ()) if "--csv" in words else "", *(place.join(parts) for place in places)])
 

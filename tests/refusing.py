@@ -41,8 +41,8 @@ class RefusedCase(TestCase):
         return names
 
     def refused(self, words, at, rest=False, threads=True, command=None):
-        """Returns how a call ends that gets no memory for the request with this number and, if `rest`, for all later ones; 0
-        refuses none. Without `threads` it gets no thread either. `command` replaces the program."""
+        """Returns how a call ends that gets no memory for the request with this number and, if `rest`, for all later
+        ones; 0 refuses none. Without `threads` it gets no thread either. `command` replaces the program."""
         reading, writing = os.pipe()
         variables = {"REFUSE_AT": str(at), "REFUSE_REST": str(int(rest)), "REFUSE_TELL": str(writing),
                      "REFUSE_THREADS": str(int(not threads))}
@@ -56,8 +56,8 @@ class RefusedCase(TestCase):
         return Ending(*ended, b"r" in letters, letters.count(b"t"))
 
     def refuse_each(self, words, compare, rest, numbers=itertools.count, command=None):
-        """Refuses the requests with these numbers in turn (and if `rest`, all later ones), until a call has no request with
-        the number. Fails unless `compare` agrees with each ending. Returns how many were refused."""
+        """Refuses the requests with these numbers in turn (and if `rest`, all later ones), until a call has no request
+        with the number. Fails unless `compare` agrees with each ending. Returns how many were refused."""
         ample = self.refused(words, 0, command=command)
         for tried, at in enumerate(numbers(1)):
             ending = self.refused(words, at, rest, command=command)

@@ -1,11 +1,11 @@
-"""Counts the program's memory requests and writes, where the pages say that a call doesn't allocate, and where work could be done
-twice, or on one thread, without a word in the output.
+"""Counts the program's memory requests and writes, where the pages say that a call doesn't allocate, and where work
+could be done twice, or on one thread, without a word in the output.
 
-A list that grows doubles its capacity. So twice the number of commands of a kind that doesn't allocate may cost only a few
-more requests, for the text, the reports and the journal; another one for each command would be noticed. A run makes no
-request between two writes, and writes a full output buffer at once. At its end, after all routes are withdrawn or purged,
-a run holds as much as a run with the same number of `dump`s. A table that has routes is left to the system. The launchers'
-settings change no request, only the place of the memory; so everything is run once."""
+A list that grows doubles its capacity. So twice the number of commands of a kind that doesn't allocate may cost only a
+few more requests, for the text, the reports and the journal; another one for each command would be noticed. A run makes
+no request between two writes, and writes a full output buffer at once. At its end, after all routes are withdrawn or
+purged, a run holds as much as a run with the same number of `dump`s. A table that has routes is left to the system. The
+launchers' settings change no request, only the place of the memory; so everything is run once."""
 import os
 import struct
 import tempfile
@@ -27,7 +27,8 @@ LEAST_WRITTEN = 65_000
 BATCHES = ("1", "64", "1024")
 # The rows that a thread renders at once (PIECE_ITEMS of rt_run/src/rendering.rt).
 PIECE = 16_384
-# A forwarding table has an entry of four bytes for each 256 addresses, and for each address of a block with longer prefixes.
+# A forwarding table has an entry of four bytes for each 256 addresses, and for each address of a block with longer
+# prefixes.
 FORWARDING_TABLE = 1 << 26
 
 
@@ -58,8 +59,8 @@ def use_processors(count):
 
 
 class Counts(NamedTuple):
-    """What a call requested: how often, the blocks and bytes held at the end, the largest request, and the number of each
-    thread; and the requests before each write to standard output."""
+    """What a call requested: how often, the blocks and bytes held at the end, the largest request, and the number of
+    each thread; and the requests before each write to standard output."""
     requests: int
     held: tuple
     largest: int
@@ -73,8 +74,8 @@ class CountedCase(TestCase):
         """Returns the counts of a call, and compares how it ends. Its writes to standard output are few and large."""
         with tempfile.TemporaryFile() as kept:
             kept.truncate(COUNTS.size)
-            ended = self.yarib(*words, env=environment() | self.preloaded("tests/count.c") | {"COUNT_IN": str(kept.fileno())},
-                               pass_fds=[kept.fileno()], **settings)
+            variables = self.preloaded("tests/count.c") | {"COUNT_IN": str(kept.fileno())}
+            ended = self.yarib(*words, env=environment() | variables, pass_fds=[kept.fileno()], **settings)
             kept.seek(0)
             requests, blocks, size, writes, largest, threads, *rest = COUNTS.unpack(kept.read())
         self.assert_ended(ended, stdout, "", returncode)
@@ -140,7 +141,8 @@ class Queries(CountedCase):
 
     def beside(self, words, others):
         """Returns how many more requests the routes cost in a call with these words than in another one."""
-        more = [self.counted(*words, file).requests - self.counted(*others, file).requests for file in ("none.feed", "text.feed")]
+        more = [self.counted(*words, file).requests - self.counted(*others, file).requests
+                for file in ("none.feed", "text.feed")]
         return more[1] - more[0]
 
     def test_answers(self):
@@ -175,18 +177,18 @@ class Work(CountedCase):
     # Catches a forwarding table for each look-up, also of one address.
     def test_few_addresses_need_no_forwarding_table(self):
         """It would be the largest request by far."""
-        self.write({"routes.feed": "".join(f"add {dotted(0x0A00_0000 + (at << 8))}/24 1 192.0.2.1\n" for at in range(20_000))})
+        self.write({"routes.feed": "".join(f"add {prefix(at)} 1 192.0.2.1\n" for at in range(20_000))})
         for count in (1, 1_000):
             with self.subTest(f"{count} addresses"):
                 self.write({"addresses.txt": "".join(f"{dotted(0x0A00_0001 + (at << 8))}\n" for at in range(count))})
                 counts = self.counted("lookup", "--addresses", "addresses.txt", "routes.feed")
                 self.assertLess(counts.largest, FORWARDING_TABLE // 8)
 
-    # Catches a forwarding table that is refused for over 700,000 routes, or for more than a feed may have: the answers are the
-    # same.
+    # Catches a forwarding table that is refused for over 700,000 routes, or for more than a feed may have: the answers
+    # are the same.
     def test_many_addresses_have_a_forwarding_table(self):
-        """Look-ups of three addresses for each of 1,050,000 routes, and of too few for a forwarding table. Both feeds are in one
-        table, since the program has one processor."""
+        """Look-ups of three addresses for each of 1,050,000 routes, and of too few for a forwarding table. Both feeds
+        are in one table, since the program has one processor."""
         places = [0x0A00_0000 + 64 * at for at in range(1_050_000)]
         adds = [f"add {dotted(place)}/28 1 192.0.2.{place >> 6 & 7}\n" for place in places]
         self.write({"1.feed": "".join(adds[:1_000_000]), "2.feed": "".join(adds[1_000_000:])})
@@ -195,8 +197,8 @@ class Work(CountedCase):
                                                  for place in places[:count])})
             rows = (row(f"{dotted(place)}/28", 1 + at // 1_000_000, 1, f"192.0.2.{place >> 6 & 7}")
                     for at, place in enumerate(places[:count]))
-            stdout = "".join(f"{dotted(place)} route {line}{dotted(place + 15)} route {line}{dotted(place + 16)} no route\n"
-                             for place, line in zip(places, rows))
+            stdout = "".join(f"{dotted(at)} route {line}{dotted(at + 15)} route {line}{dotted(at + 16)} no route\n"
+                             for at, line in zip(places, rows))
             with self.subTest(name):
                 counts = self.counted("lookup", "--addresses", "addresses.txt", "1.feed", "2.feed", stdout=stdout,
                                       preexec_fn=lambda: use_processors(1))
@@ -225,7 +227,8 @@ class Work(CountedCase):
     # Catches a program that deals all texts to one thread.
     @unittest.skipIf(len(os.sched_getaffinity(0)) < 2, "one processor has one thread")
     def test_feeds_are_dealt_to_all_threads(self):
-        """Each `add` requests memory on the thread that executes it: of eight feeds, no thread executes three quarters."""
+        """Each `add` requests memory on the thread that executes it: of eight feeds, no thread executes three
+        quarters."""
         names = [f"{feed}.feed" for feed in range(8)]
         for feed, name in enumerate(names):
             self.write({name: "".join(f"add {dotted(feed << 28 | at << 8)}/24 1 192.0.2.1\n" for at in range(4_000))})

@@ -1,10 +1,11 @@
-"""The costs of a run: how its feeds wait for each other, and its processor time compared with a baseline in the same run.
+"""The costs of a run: how its feeds wait for each other, and its processor time compared with a baseline in the same
+run.
 
 No clause says how long anything takes. Waits are counted (tests/waits.c); other work on the machine changes these
 counts little. Processor time is compared with a baseline in the same run, which other work slows down by the same
 factor: passages of a mutex in C, or what the same call has used before its first output. Each bound is one and a half
-to three times the measured value, and holds for the best of some rounds; a mutant stays below it in none. YARIB_SHOW_COSTS=1
-prints what is measured."""
+to three times the measured value, and holds for the best of some rounds; a mutant stays below it in none.
+YARIB_SHOW_COSTS=1 prints what is measured."""
 import os
 import random
 import struct
@@ -23,8 +24,8 @@ ROUNDS = 30
 
 
 class Waits(NamedTuple):
-    """The waits of a word, a place's bell: short ones at the door, longer ones in the lock, and how often it rang; and the
-    strange ones: a place waits only at its own bell, and wakes only others."""
+    """The waits of a word, a place's bell: short ones at the door, longer ones in the lock, and how often it rang; and
+    the strange ones: a place waits only at its own bell, and wakes only others."""
     naps: int
     sleeps: int
     wakes: int
@@ -79,10 +80,11 @@ class WaitsOfFiles(CostCase):
     def test_one_file_waits_for_nobody(self):
         self.assertEqual(self.dumps(1, 100_000).waits, [])
 
-    # Catches a place that sleeps or naps at another's bell, or while its bell has another number than 1 or 0: `strange waits`.
+    # Catches a place that sleeps or naps at another's bell, or while its bell has another number than 1 or 0: `strange
+    # waits`.
     def test_each_place_has_its_own_bell(self):
-        """Files that meet one another at each entry, and a crowd: each thread waits at a single word of its own. Some nap, some
-        sleep, and some are woken."""
+        """Files that meet one another at each entry, and a crowd: each thread waits at a single word of its own. Some
+        nap, some sleep, and some are woken."""
         self.write_meeting(dumps=100_000, seldom=0)
         for at in range(ROUNDS):
             meeting = self.costs("run", "--batch", "1", "meeting.feed", "adds.feed", HOLD_UP="1").waits
@@ -95,8 +97,8 @@ class WaitsOfFiles(CostCase):
 
     # Catches a place that naps inside, or at each entry.
     def test_a_crowd_seldom_naps(self):
-        """Eight files that enter all the time. After a nap a file finds the door free for as long as others nap: at most one of
-        20 entries naps."""
+        """Eight files that enter all the time. After a nap a file finds the door free for as long as others nap: at
+        most one of 20 entries naps."""
         naps = min(sum(place.naps for place in self.dumps(8, 4_000).waits) for _ in range(3))
         self.show("naps of 32,000 entries of 8 files", naps)
         self.assertLessEqual(naps, 32_000 / 20)
@@ -117,8 +119,8 @@ class WaitsOfFiles(CostCase):
     def test_contention_is_forgotten(self):
         """A file that has met the other one 20 times in a row meets it now and then, and doesn't nap for that."""
         self.write_meeting(dumps=3_000_000, seldom=70)
-        # Other work can keep the files apart, or hold one up at the door. Who never forgets naps at each meeting, in every
-        # round.
+        # Other work can keep the files apart, or hold one up at the door. Who never forgets naps at each meeting, in
+        # every round.
         for _ in range(8):
             waits = self.met(1, "meeting.feed", "adds.feed")
             self.show("waits of the file of dumps", waits)
@@ -127,8 +129,8 @@ class WaitsOfFiles(CostCase):
         self.fail(f"file 1 hasn't forgotten the crowd: in the last round {waits}")
 
     def write_meeting(self, dumps, seldom):
-        """Writes a long file of `dump`s, and one of `add`s. The `add`s are 20 in a row and then some more, so rarely that the
-        other file executes over a thousand commands in between."""
+        """Writes a long file of `dump`s, and one of `add`s. The `add`s are 20 in a row and then some more, so rarely
+        that the other file executes over a thousand commands in between."""
         adds = [f"add 10.{at >> 8}.{at & 255}.0/24 1 192.0.2.1\n" for at in range(20 + seldom)]
         self.write({"meeting.feed": "dump\n" * dumps,
                     "adds.feed": "".join(adds[:20]) + "".join("#\n" * 100_000 + add for add in adds[20:])})
@@ -142,13 +144,14 @@ class WaitsOfFiles(CostCase):
 class ProcessorTime(CostCase):
     # Catches an entry that takes microseconds more, asleep or not: `a passage alone`.
     def test_passages_of_one_file(self):
-        """The passages of one file are what its commands one at a time take beyond the same in batches of 1,024. They are
-        compared with passages of a mutex."""
+        """The passages of one file are what its commands one at a time take beyond the same in batches of 1,024. They
+        are compared with passages of a mutex."""
         lines, passages, batches = 200_000, [], []
         self.write({"dumps.feed": "dump\n" * lines})
         mutexes = compiled(self.folder, "tests/mutex.c", "-pthread")
         for _ in range(5):
-            one, batched = (self.costs("run", "--batch", batch, "dumps.feed").before_output / lines for batch in ("1", "1024"))
+            one, batched = (self.costs("run", "--batch", batch, "dumps.feed").before_output / lines
+                            for batch in ("1", "1024"))
             mutex = float(self.call(mutexes, "1000000").stdout)
             passages.append((one - batched) / mutex)
             batches.append(batched / mutex)
@@ -162,7 +165,8 @@ class ProcessorTime(CostCase):
         low = [dotted(at << 9) for at in range(3_000)]
         high = [dotted(0x0100_0000 + (place << 8)) for place in choice.sample(range(1 << 20), 100_000)]
         for side in (1, 2):
-            adds = [f"add {base}/24 1 192.0.2.{side}\n" for base in low] + [f"add {base}/24 1 192.0.2.1\n" for base in high]
+            adds = [f"add {base}/24 1 192.0.2.{side}\n" for base in low]
+            adds += [f"add {base}/24 1 192.0.2.1\n" for base in high]
             self.write({f"side{side}.feed": "".join(adds)})
         self.write({"addresses.txt": "".join(f"{base}\n" for base in choice.sample(high, len(high)))})
         for name, returncode, words, bound in (

@@ -89,6 +89,7 @@ class Json(DiffCase):
             (_, old), (_, new) = self.random_sides(choice, number, discards=("new",))
             for by in ("hop", "route"):
                 plain = self.yarib("diff", "--by", by, *of_both(old, new))
+                self.assertEqual(plain.returncode, 1)
                 wanted = []
                 for line in plain.stdout.splitlines():
                     first, last, was, now = re.fullmatch(r"(\S+)-(\S+) (.*) -> (.*)", line).groups()
@@ -110,6 +111,7 @@ class Prefixes(DiffCase):
             (_, old), (_, new) = self.random_sides(choice, number)
             for more in (["--by", "hop"], BY_ROUTE, BY_NAME, [*BY_ROUTE, "--json"], ["--json"]):
                 ranges = self.yarib("diff", *more, *of_both(old, new))
+                self.assertEqual(ranges.returncode, 1 if number else 0)
                 wanted = "".join(map(as_prefixes, ranges.stdout.splitlines(keepends=True)))
                 self.assert_prints(["diff", "--prefixes", *more, *of_both(old, new)], wanted, "", ranges.returncode,
                                    name=f"{' '.join(more)}, {number} routes")

@@ -45,6 +45,7 @@ class LeftOut(ProgramCase):
         for feed in FEEDS:
             lines = [self.drawn_line(length) for length in self.choice.sample(range(33), 12)]
             self.write({f"left{feed}.feed": "".join(lines) + "frob\n"})
+        self.assertEqual(self.yarib("table", *placed([], "")).stdout.count("\n"), 12 * len(FEEDS))
         return self.choice.sample(FEEDS, self.choice.randrange(5))
 
     def drawn_line(self, length):
@@ -128,6 +129,7 @@ class Selected(ProgramCase):
                 table_of = ["table", *best, *(f"--only={feed}" for feed in executed)]
                 files = [name if feed in executed else "missing" for feed, name in enumerate(self.files, 1)]
                 whole = self.yarib(*table_of, *files)
+                self.assertNotEqual(whole.stdout, "")
                 self.assert_prints([*table_of, *(f"--feed={feed}" for feed in feeds), *files],
                                    "".join(self.rows_of(whole, feeds)), whole.stderr, whole.returncode)
 

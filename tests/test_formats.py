@@ -201,6 +201,7 @@ class Names(FormatCase):
         paths = self.write_offers(NAMED)
         for command in COMMANDS:
             lines = self.stdout(*command, *paths)
+            self.assertIn(" feed 1 ", lines)
             named = re.sub(r" feed (\d+) ", lambda found: f" feed {NAMED[paths[int(found[1]) - 1]]} ", lines)
             self.assert_prints([*command, "--names", *paths], named, name=" ".join(command))
 

@@ -1,5 +1,5 @@
-"""Runs the program on paths that aren't files, on files that can't be read, on pipes among long files, which several threads
-read, on odd names, and with outputs that accept nothing."""
+"""Runs the program on paths that aren't files, on files that can't be read, on pipes among long files, which several
+threads read, on odd names, and with outputs that accept nothing."""
 import os
 import pathlib
 import resource
@@ -45,18 +45,20 @@ class FileCase(TestCase):
             self.write({"locked.feed": LONG})
             (self.folder / "locked.feed").chmod(0)
             return self.folder / "locked.feed"
-        return next((path for path in sorted(pathlib.Path("/sys/bus").glob("*/drivers_probe")) if path.stat().st_size), None)
+        probes = sorted(pathlib.Path("/sys/bus").glob("*/drivers_probe"))
+        return next((path for path in probes if path.stat().st_size), None)
 
 
 class Files(FileCase):
     def test_missing_files_and_directories(self):
-        others = ["row.feed"] * (MAX_FEEDS - 3)
-        self.assert_unreadable("one missing, one a folder, one empty", ["run", *others, "empty.feed", "missing.feed", "."],
-                               "missing.feed")
-        self.assert_unreadable("the folder before the missing one", ["run", *others, ".", "empty.feed", "missing.feed"], ".")
-        self.assert_unreadable("the missing one first", ["run", "missing.feed", *others, ".", "empty.feed"], "missing.feed")
-        self.assert_unreadable("a look-up", ["lookup", "--address", "10.0.0.1", *others, "empty.feed", "missing.feed", "."],
-                               "missing.feed")
+        others, missing = ["row.feed"] * (MAX_FEEDS - 3), "missing.feed"
+        for name, words, path in (
+            ("one missing, one a directory, one empty", ["run", *others, "empty.feed", missing, "."], missing),
+            ("the directory before the missing one", ["run", *others, ".", "empty.feed", missing], "."),
+            ("the missing one first", ["run", missing, *others, ".", "empty.feed"], missing),
+            ("a look-up", ["lookup", "--address", "10.0.0.1", *others, "empty.feed", missing, "."], missing),
+        ):
+            self.assert_unreadable(name, words, path)
 
     def test_one_empty_file(self):
         ended = self.yarib("run", *["row.feed"] * (MAX_FEEDS - 3), "empty.feed", "row.feed", "row.feed")
@@ -76,18 +78,20 @@ class Files(FileCase):
         (self.folder / "locked.feed").chmod(0)
         self.assert_unreadable("run", ["run", "locked.feed"], "locked.feed")
 
-    # Catches F3 of `lookup` or `table` for more than 6 texts, or a seventh file that `table` can't read: `the table of 7
-    # files`.
-    # Catches F3 for more than 33 texts, or a `lookup` that rejects the maximum number of files: `addresses from a pipe and
-    # MAX_FEEDS files`.
+    # Catches F3 of `lookup` or `table` for more than 6 texts, or a seventh file that `table` can't read: `the table of
+    # 7 files`.
+    # Catches F3 for more than 33 texts, or a `lookup` that rejects the maximum number of files: `addresses from a pipe
+    # and MAX_FEEDS files`.
     def test_one_file_over_and_over(self):
         file = "row.feed"
-        self.assert_prints("the same file twice", ["run", file, file], f"1:1 added\n2:1 added\ntable 2\n{rows_of((1, 2))}")
+        self.assert_prints("the same file twice", ["run", file, file],
+                           f"1:1 added\n2:1 added\ntable 2\n{rows_of((1, 2))}")
         for count, name in ((1, "1"), (7, "7"), (MAX_FEEDS, "MAX_FEEDS")):
             listed = rows_of(range(1, count + 1))
             first, *others = listed.splitlines()
             self.assert_prints(f"the table of {name} files", ["table", *[file] * count], listed)
-            self.assert_prints(f"addresses from a pipe and {name} files", ["lookup", "--addresses", "/dev/stdin", *[file] * count],
+            self.assert_prints(f"addresses from a pipe and {name} files",
+                               ["lookup", "--addresses", "/dev/stdin", *[file] * count],
                                f"10.0.0.1 route {first}\n", input="10.0.0.1\n")
             every = f"10.0.0.1 route {first}\n" + "".join(f"10.0.0.1 also {line} feed\n" for line in others)
             self.assert_prints(f"all that covers, in {name} files",
@@ -133,7 +137,8 @@ class LongFiles(FileCase):
         self.assert_prints("table", ["table", *feeds], "".join(rows))
         with self.subTest("run"):
             self.assertEqual(self.yarib("run", *feeds).stdout.splitlines(True)[-9:], rows)
-        self.assert_prints("two left out", ["table", "--without", "2", "--without", "9", *feeds], "".join(rows[:1] + rows[2:8]))
+        self.assert_prints("two left out", ["table", "--without", "2", "--without", "9", *feeds],
+                           "".join(rows[:1] + rows[2:8]))
         self.assert_prints("a missing one left out", ["table", "--without", "2", feeds[0], "missing", *feeds[2:]],
                            "".join(rows[:1] + rows[2:]))
         self.assert_prints("of both sides", ["diff", *feeds[:2], "--", *feeds[:3]],
@@ -144,7 +149,8 @@ class LongFiles(FileCase):
         """Fails unless the first file that can't be read is reported."""
         feeds = self.feeds
         self.assert_unreadable("the first", ["table", *feeds[:4], locked, *feeds[4:], "missing"], locked)
-        self.assert_unreadable("a feed left out", ["table", "--without", "3", *feeds[:4], locked, *feeds[4:], "missing"], locked)
+        self.assert_unreadable("a feed left out",
+                               ["table", "--without", "3", *feeds[:4], locked, *feeds[4:], "missing"], locked)
         self.assert_unreadable("a missing file before", ["table", *feeds[:4], "missing", locked, *feeds[4:]], "missing")
         self.assert_unreadable("of the old side", ["diff", *feeds[:4], locked, "--", "missing", *feeds[4:]], locked)
         self.assert_unreadable("of the new side", ["diff", *feeds[:4], "--", *feeds[4:], locked, "missing"], locked)
@@ -195,15 +201,19 @@ class LongFilesAndPipes(FileCase):
     # Catches a pipe that is opened although an earlier file can't be read.
     def test_a_pipe_behind_what_cannot_be_read(self):
         for name, locked in (("a directory", self.folder), ("missing", "missing"), ("a file", self.write_only())):
-            if locked is not None:
+            if locked is None:
+                with self.subTest(name):
+                    self.skipTest("root may read every file here")
+            else:
                 self.assert_fed(name, self.ONE_BY_ONE, ["table", "long", "other", locked, "pipe"], True,
                                 stderr=f"yarib: cannot read {locked}\n", returncode=4)
 
     def test_standard_input_twice(self):
-        self.assert_prints("a pipe behind long files", ["table", "long", "other", "/dev/stdin", "/dev/stdin"], rows_of((2, 3)),
-                           input=ROW)
+        self.assert_prints("a pipe behind long files", ["table", "long", "other", "/dev/stdin", "/dev/stdin"],
+                           rows_of((2, 3)), input=ROW)
         with open(self.folder / "other") as text:
-            self.assert_prints("a long file", ["table", "long", "/dev/stdin", "/dev/stdin"], rows_of((2, 3)), stdin=text)
+            self.assert_prints("a long file", ["table", "long", "/dev/stdin", "/dev/stdin"], rows_of((2, 3)),
+                               stdin=text)
 
 
 class Outputs(FileCase):
@@ -215,7 +225,8 @@ class Outputs(FileCase):
         for words in (
             ["run", "row.feed"], ["run", "large.feed"], ["lookup", "--addresses", "addresses.txt", "row.feed"],
             ["lookup", "--all", "--addresses", "addresses.txt", "row.feed"], ["table", "row.feed"],
-            ["diff", "row.feed", "--", "empty.feed"], ["replay", "--levels", "1", "0"], ["run", "--help"], ["--version"],
+            ["diff", "row.feed", "--", "empty.feed"], ["replay", "--levels", "1", "0"], ["run", "--help"],
+            ["--version"],
         ):
             self.assert_nothing_written(words)
         self.assertEqual((self.folder / "row.feed").read_text(), ROW)
@@ -225,17 +236,20 @@ class Outputs(FileCase):
         with open("/dev/full", "w") as full:
             self.assert_prints(f"{name}: a full output", words, stdout_to=full, **CANNOT_WRITE)
             self.assert_prints(f"{name}: both outputs full", words, returncode=6, stdout_to=full, stderr_to=full)
-        self.assert_prints(f"{name}: a closed output", words, stdout_to=None, preexec_fn=lambda: os.close(1), **CANNOT_WRITE)
+        self.assert_prints(f"{name}: a closed output", words, stdout_to=None,
+                           preexec_fn=lambda: os.close(1), **CANNOT_WRITE)
         reading, writing = os.pipe()
         os.close(reading)
         self.assert_prints(f"{name}: a pipe without a reader", words, stdout_to=writing, **CANNOT_WRITE)
         os.close(writing)
-        self.assert_prints(f"{name}: nothing is open", words, returncode=6, stdout_to=None, stderr_to=None, preexec_fn=close_all)
+        self.assert_prints(f"{name}: nothing is open", words, returncode=6, stdout_to=None, stderr_to=None,
+                           preexec_fn=close_all)
 
     def assert_prints(self, name, words, *ending, preexec_fn=None, stdout_to=subprocess.PIPE, stderr_to=subprocess.PIPE,
                       **more):
         with self.subTest(name):
-            self.assert_ended(self.yarib(*words, stdout=stdout_to, stderr=stderr_to, preexec_fn=preexec_fn), *ending, **more)
+            ended = self.yarib(*words, stdout=stdout_to, stderr=stderr_to, preexec_fn=preexec_fn)
+            self.assert_ended(ended, *ending, **more)
 
     def test_a_reader_that_leaves(self):
         """The reader of the output reads its beginning and closes it."""

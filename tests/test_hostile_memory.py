@@ -1,9 +1,9 @@
 """Runs the program with little memory, and with refused requests for memory.
 
 The program is run under rising limits of its address space, with the C library's default memory settings and with the
-launchers'. Each run must end in one of three ways: as with ample memory; with status 5 and nothing on standard output; or with
-status 5 and the model's output without the commands reported as refused. It must never end by a signal. Limits under which it
-can't be loaded at all are left out. Then each request of a look-up and of a list is refused in turn, as
+launchers'. Each run must end in one of three ways: as with ample memory; with status 5 and nothing on standard output;
+or with status 5 and the model's output without the commands reported as refused. It must never end by a signal. Limits
+under which it can't be loaded at all are left out. Then each request of a look-up and of a list is refused in turn, as
 tests/test_refused_growth.py does it for all kinds of runs, and requests of a forwarding table."""
 import re
 import resource
@@ -41,8 +41,8 @@ class LittleMemory(RefusedCase):
             self.write_feeds(name, texts)
 
     def limited(self, words, size, memory):
-        """Returns how a call ends with at most `size` bytes of address space and these memory settings, or None if the program
-        can't be loaded into them."""
+        """Returns how a call ends with at most `size` bytes of address space and these memory settings, or None if the
+        program can't be loaded into them."""
 
         def limit():
             resource.setrlimit(resource.RLIMIT_AS, (size, size))
@@ -59,11 +59,12 @@ class LittleMemory(RefusedCase):
         return None if ended.returncode == 127 else ended
 
     def kind_of(self, ended, ample, texts, words, size):
-        """Compares a call under a limit with that with ample memory or, if commands were refused, with the model. Returns the
-        kind of its end."""
+        """Compares a call under a limit with that with ample memory or, if commands were refused, with the model.
+        Returns the kind of its end."""
         if ended == ample:
             return "as with ample memory"
-        if ended.returncode == 5 and re.search(r"^yarib: .*: commands failed, out of memory: [1-9]", ended.stderr, re.M):
+        failed = re.search(r"^yarib: .*: commands failed, out of memory: [1-9]", ended.stderr, re.M)
+        if ended.returncode == 5 and failed:
             addresses = [word for before, word in zip(words, words[1:]) if before == "--address"]
             self.assertEqual(answered_addresses(ended.stdout), addresses, f"in {size // 1024} KB")
             return "with commands refused"

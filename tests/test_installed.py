@@ -37,8 +37,8 @@ echo >>"$COUNT"
 if [ "$(wc -l <"$COUNT")" = "$AT" ]; then kill -9 $PPID; exit; fi
 exec COMMAND "$@"
 """
-# Replaces a command, and notes its arguments.
-NOTING = '#!/bin/sh\necho NAME "$@" >>"$NOTES"\nexec COMMAND "$@"\n'
+# Replaces a command, and notes its arguments, with a tab after each.
+NOTING = '#!/bin/sh\n{ printf "%s\\t" NAME "$@"; echo; } >>"$NOTES"\nexec COMMAND "$@"\n'
 
 
 class Installed(CopyCase):
@@ -197,7 +197,7 @@ class Installed(CopyCase):
             write_script(self.folder / "noting" / command, NOTING.replace("NAME", command).replace("COMMAND", shutil.which(command)))
         env = first_on_path(self.folder / "noting", NOTES=str(self.folder / "notes"))
         self.assert_ended(self.install(self.folder / "put", env=env), stdout=None)
-        noted = [line.split() for line in (self.folder / "notes").read_text().splitlines()]
+        noted = [line.split("\t")[:-1] for line in (self.folder / "notes").read_text().splitlines()]
         synced = {words[-1] for words in noted if words[0] == "sync"}
         moved = [words[-2] for words in noted if words[0] == "mv" and words[-1].startswith(str(self.folder / "put/"))
                  and words[-2].endswith("-new")]

@@ -115,7 +115,9 @@ class Packages(TestCase):
         self.write({"row.feed": ROW, "routes": ROUTES})
 
     def call(self, *command, **settings):
-        return super().call(*command, **{"env": environment()} | settings)
+        """Calls a command; Python writes bytecode next to what is installed, as it does for a user who is root."""
+        variables = {name: value for name, value in environment().items() if name != "PYTHONDONTWRITEBYTECODE"}
+        return super().call(*command, **{"env": variables | settings.pop("variables", {})} | settings)
 
     # Catches packages that depend on the directory, the time, the umask or the time zone.
     def test_made_again(self):
@@ -124,7 +126,7 @@ class Packages(TestCase):
                           env=os.environ | {"TZ": "Asia/Tokyo", "LANG": "C"})
         self.assert_ended(ended, stdout=None)
         for file in sorted(release().iterdir()):
-            with self.subTest(file.name):
+            with self.subTest(file.name.replace(VERSION, "VERSION")):
                 self.assertEqual((again / file.name).read_bytes(), file.read_bytes())
 
     def test_sums(self):
@@ -153,7 +155,7 @@ class Packages(TestCase):
     def test_lintian(self):
         self.assert_ended(self.call("lintian", "-i", "-E", "--fail-on", "error,warning,info", *sorted(release().glob("*.deb"))))
 
-    # Catches an archive whose install script leaves something, or installs what doesn't run.
+    # Catches an archive whose install script leaves something, such as bytecode, or installs what doesn't run.
     def test_archive(self):
         extract(release() / f"{ARCHIVE}.tar.gz", self.folder)
         install, prefix = self.folder / ARCHIVE / "install", self.folder / "put here"
@@ -166,7 +168,7 @@ class Packages(TestCase):
             ended = self.call(prefix / "bin/yarib-table-to-map", input="total 0\n")
             self.assert_ended(ended, stdout=None, stderr="yarib-table-to-map: standard input: no row: no address has a route\n")
         with self.subTest("its version"):
-            ended = self.call("pkg-config", "--modversion", "yarib", env=environment() | {"PKG_CONFIG_PATH": str(prefix / "lib/pkgconfig")})
+            ended = self.call("pkg-config", "--modversion", "yarib", variables={"PKG_CONFIG_PATH": str(prefix / "lib/pkgconfig")})
             self.assert_ended(ended, f"{VERSION}\n")
         self.assert_ended(self.call(install, "--remove", prefix), stdout=None)
         self.assertFalse(prefix.exists())
@@ -175,12 +177,14 @@ class Packages(TestCase):
     @unittest.skipUnless(has_pip(), "python3 has no pip")
     def test_wheel(self):
         [wheel] = release().glob("*.whl")
-        self.assert_ended(self.call(*PIP, "site", wheel, env=environment() | {"PIP_ROOT_USER_ACTION": "ignore"}), stdout=None)
-        self.assert_example("example.py", "site", 3)
+        self.assert_ended(self.call(*PIP, "site", wheel, variables={"PIP_ROOT_USER_ACTION": "ignore"}), stdout=None)
+        self.assert_example(TOP / "bindings/python/example.py", "site", 3)
 
-    def assert_example(self, name, site, lines, **variables):
-        """Fails unless an example of Python prints this number of lines with what pip has installed in a directory."""
-        ended = self.call(sys.executable, TOP / "bindings/python" / name, env=environment() | {"PYTHONPATH": site} | variables)
+    def assert_example(self, file, site, lines, **variables):
+        """Fails unless a copy of an example of Python prints this number of lines with what pip has installed in a
+        directory."""
+        shutil.copy(file, self.folder)
+        ended = self.call(sys.executable, file.name, variables={"PYTHONPATH": site} | variables)
         self.assert_ended(ended, stdout=None)
         self.assertEqual(ended.stdout.count("\n"), lines)
 
@@ -199,10 +203,12 @@ class Packages(TestCase):
     @unittest.skipUnless(has_pip(), "python3 has no pip")
     def test_sdist(self):
         sdist = release() / f"yarib-{VERSION}.tar.gz"
-        self.assert_ended(self.call(*PIP, "built", sdist, env=environment() | {"PIP_ROOT_USER_ACTION": "ignore"}), stdout=None)
-        extract(release() / f"{ARCHIVE}.tar.gz", self.folder / "staged")
-        [library] = (self.folder / "staged").rglob("libyarib.so.0")
-        self.assert_example("example_daemon.py", "built", 5, YARIB_LIBRARY=str(library))
+        self.assert_ended(self.call(*PIP, "built", sdist, variables={"PIP_ROOT_USER_ACTION": "ignore"}), stdout=None)
+        for path in (sdist, release() / f"{ARCHIVE}.tar.gz"):
+            extract(path, self.folder / "sources")
+        [library] = (self.folder / "sources").rglob("libyarib.so.0")
+        [file] = (self.folder / "sources").rglob("example_daemon.py")
+        self.assert_example(file, "built", 5, YARIB_LIBRARY=str(library))
 
     def assert_bindings(self, name):
         """Fails unless the archive of a language's sources builds an example, and passes a test."""
@@ -219,7 +225,7 @@ class Packages(TestCase):
     def test_archive_for_rust(self):
         self.assert_bindings("cargo")
 
-    # Catches packages that need more than they say, or don't work without a toolchain.
+    # Catches packages that need more than they say, don't work without a toolchain, or leave bytecode.
     def test_debian_12(self):
         self.assert_used_in_root("12")
 
@@ -229,6 +235,7 @@ class Packages(TestCase):
     def assert_used_in_root(self, version):
         """Fails unless the packages can be installed in a root of Debian, used and removed."""
         root = self.root_of(version)
+        self.varies()  # by the languages that are installed here
         programs = {name: example(name)[1] for name in EXAMPLES if shutil.which(name)}
         for file in release().glob("*.deb"):
             shutil.copy(file, root / "tmp")
@@ -244,10 +251,9 @@ class Packages(TestCase):
             self.assert_ended(ended, stdout=None)
             self.assertEqual(ended.stdout.count("10.1.0.0"), 4)
         for name in programs:
-            with self.subTest(f"the example of {name}"):
-                ended = in_root(f"/tmp/{name}")
-                self.assert_ended(ended, stdout=None)
-                self.assertEqual(ended.stdout.count("10.1.2.3: "), 2)
+            ended = in_root(f"/tmp/{name}")
+            self.assert_ended(ended, stdout=None, message=f"the example of {name}")
+            self.assertEqual(ended.stdout.count("10.1.2.3: "), 2, f"the example of {name}")
         with self.subTest("a manual page"):
             page = gzip.decompress((root / "usr/share/man/man1/yarib-bird-to-feeds.1.gz").read_bytes())
             self.assertEqual(page[:4], b".TH ")

@@ -18,8 +18,9 @@ FILES, ROUTES = 64, 1_500
 # (crates/rt_app/src/program/threads.rt).
 BYTES_TO_EXECUTE, BYTES_TO_READ = 1 << 18, 1 << 20
 NAMES = " ".join(f"f{feed}.feed" for feed in range(1, FILES + 1))
-OLD = " ".join(f"f{feed}.feed" for feed in range(1, FILES // 2 + 1))
-NEW = f"f1.feed f2.feed {' '.join(f'f{feed}.feed' for feed in range(4, FILES // 2 + 2))} -- {OLD}"
+# Sides share the processors by their bytes: the old one has over nine of sixteen.
+NEW = "f1.feed f2.feed f4.feed f61.feed f62.feed f63.feed"
+SIDES = " ".join(f"f{feed}.feed" for feed in range(1, FILES - 3)) + f" -- {NEW}"
 QUERIES = {
     "table": f"table {NAMES}",
     "best": f"table --best {NAMES}",
@@ -37,10 +38,10 @@ QUERIES = {
     "lookup_all": f"lookup --all --addresses asked.txt {NAMES}",
     "lookup_all_json": f"lookup --all --json --addresses asked.txt {NAMES}",
     "lookup_names": f"lookup --names --addresses asked.txt {NAMES}",
-    "diff": f"diff {NEW}",
-    "diff_by_route": f"diff --by route --names {NEW}",
-    "diff_count": f"diff --count {NEW}",
-    "diff_prefixes": f"diff --prefixes --csv {NEW}",
+    "diff": f"diff {SIDES}",
+    "diff_by_route": f"diff --by route --names {SIDES}",
+    "diff_count": f"diff --count {SIDES}",
+    "diff_prefixes": f"diff --prefixes --csv {SIDES}",
 }
 
 

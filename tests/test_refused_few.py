@@ -1,13 +1,13 @@
 """Refuses memory requests of the program, a few of each call, and compares the output with a plain model.
 
-A run is called with its 1st, 2nd, 3rd, 4th, 6th, 9th, 12th, .. request refused, a replay with each, until no request of that
-number comes. Each is refused first by itself, then with all later ones. A run requests memory in TreeLock::new, in
-SharedRib (new, and apply or with batches apply_batch), in run_feed and in run_texts. tests/test_refused_calls.py refuses each
-request of the libraries' calls, and tests/test_refused_growth.py each of more runs.
+A run is called with its 1st, 2nd, 3rd, 4th, 6th, 9th, 12th, .. request refused, a replay with each, until no request of
+that number comes. Each is refused first by itself, then with all later ones. A run requests memory in TreeLock::new, in
+SharedRib (new, and apply or with batches apply_batch), in run_feed and in run_texts. tests/test_refused_calls.py
+refuses each request of the libraries' calls, and tests/test_refused_growth.py each of more runs.
 
-A comparison of two large tables executes its sides on two threads, and a query of two large files each on its own. Longer files
-are read on several threads. All are called with each request refused, by itself and with all later ones, with a second thread
-and without one."""
+A comparison of two large tables executes its sides on two threads, and a query of two large files each on its own.
+Longer files are read on several threads. All are called with each request refused, by itself and with all later ones,
+with a second thread and without one."""
 import itertools
 import os
 import re
@@ -30,11 +30,13 @@ NOTHING_OR_RUN = {"nothing": "", "the run": "yarib: fault F3\n"}
 
 def happenings(*names):
     """Returns what can happen to a call of feeds with these names."""
-    return NOTHING_OR_RUN | {f"a command of {name}": f"yarib: {name}.feed: commands failed, out of memory: N\n" for name in names}
+    return NOTHING_OR_RUN | {f"a command of {name}": f"yarib: {name}.feed: commands failed, out of memory: N\n"
+                             for name in names}
 
 
 def numbers(at):
-    """1, 2, 3, 4, 6, 9, 12, 15, .. without end, from 1 on: only the last requests of a run are those of its commands."""
+    """1, 2, 3, 4, 6, 9, 12, 15, .. without end, from 1 on: only the last requests of a run are those of its
+    commands."""
     while True:
         yield at
         at += max(1, min(3, at // 2))
@@ -70,8 +72,10 @@ class Few(RefusedCase):
         self.assertIn("fault P3", self.kinds)
 
 
-# Catches a comparison, a query or a reader on one thread, and one that creates a thread for small tables: `its threads`.
-# Catches one that executes only one side or share, or leaves a file out, if no thread can be created: `without a thread`.
+# Catches a comparison, a query or a reader on one thread, and one that creates a thread for small tables: `its
+# threads`.
+# Catches one that executes only one side or share, or leaves a file out, if no thread can be created: `without a
+# thread`.
 # Catches one that ignores that a side, a share or a file had no memory: `with a request refused`.
 @needs_command("gcc")
 @unittest.skipIf(len(os.sched_getaffinity(0)) < 2, "with one processor there is one thread")
@@ -85,8 +89,9 @@ class Threads(RefusedCase):
                 return
 
     def assert_alike(self, words, effects, counts):
-        """Fails unless a call ends the same without further threads. With them, a refused request has an effect that a refused
-        request has without them. `counts` are the numbers of threads that it may request: none, some, or one of a list."""
+        """Fails unless a call ends the same without further threads. With them, a refused request has an effect that a
+        refused request has without them. `counts` are the numbers of threads that it may request: none, some, or one of
+        a list."""
         self.varies()
         ample = self.refused(words, 0)
         self.assertEqual((ample.returncode, ample.stderr), (1 if "diff" in words else 0, ""))

@@ -1,7 +1,7 @@
 """Comparisons of sizes at which a needless refusal would show: the whole output of each is compared with a plain model.
 
-They have up to 1,050,000 ranges, in one of the blocks of addresses that a thread lists and in all of them, and 1,480 pairs of
-next hops."""
+They have up to 1,050,000 ranges, in one of the blocks of addresses that a thread lists and in all of them, and 1,480
+pairs of next hops."""
 import collections
 
 from dev.models.table_model import number
@@ -26,23 +26,27 @@ class SingleAddresses(LaunchedCase):
                         "last.feed": single_routes(places[:-1])})
             words = ["diff", "--limit", "1000000"]
             ranges = "".join(f"{place}-{place} via 192.0.2.1 -> via 192.0.2.2\n" for place in places)
-            self.assert_prints(f"{count} routes that differ", [*words, "old.feed", "--", "new.feed"], ranges, returncode=1)
+            self.assert_prints(f"{count} routes that differ", [*words, "old.feed", "--", "new.feed"], ranges,
+                               returncode=1)
             self.assert_prints(f"{count} routes of which none differs", [*words, "old.feed", "--", "old.feed"], "")
             self.assert_prints(f"{count} routes of which one differs", [*words, "last.feed", "--", "old.feed"],
                                f"{places[-1]}-{places[-1]} no route -> via 192.0.2.1\n", returncode=1)
 
     def assert_all_differ(self, places):
         """Compares a full table of two feeds with an empty one, in both directions."""
-        self.write({"1.feed": single_routes(places[:1_000_000]), "2.feed": single_routes(places[1_000_000:]), "empty.feed": ""})
+        self.write({"1.feed": single_routes(places[:1_000_000]), "2.feed": single_routes(places[1_000_000:]),
+                    "empty.feed": ""})
         ranges = [f"{place}-{place} via 192.0.2.1 -> no route\n" for place in places]
-        self.assert_prints("full -- empty", ["diff", "1.feed", "2.feed", "--", "empty.feed"], "".join(ranges), returncode=1)
+        self.assert_prints("full -- empty", ["diff", "1.feed", "2.feed", "--", "empty.feed"], "".join(ranges),
+                           returncode=1)
         counts = "".join(f"{what} {hop_count(len(places))}\n" for what in (
             "change gets a route", "hops no route -> via 192.0.2.1"))
         self.assert_prints("--count empty -- full", ["diff", "--count", "empty.feed", "--", "1.feed", "2.feed"],
                            f"{hop_count(len(places))}\n{counts}", returncode=1)
 
     def test_a_block_of_400000_differences(self):
-        """Catches a comparison that refuses over 300,000 ranges within a block of 2^26 addresses, which a thread lists."""
+        """Catches a comparison that refuses over 300,000 ranges within a block of 2^26 addresses, which a thread
+        lists."""
         self.assert_all_differ(apart(400_000))
 
     def test_over_a_million_differences(self):
@@ -52,7 +56,8 @@ class SingleAddresses(LaunchedCase):
 
 class Counts(LaunchedCase):
     def test_over_a_thousand_pairs_of_next_hops(self):
-        """Catches a count that refuses over 1,000 pairs of next hops, or over 300,000 ranges: 400,000 ranges have 1,480 pairs."""
+        """Catches a count that refuses over 1,000 pairs of next hops, or over 300,000 ranges: 400,000 ranges have 1,480
+        pairs."""
         old, new = [f"192.0.2.{at}" for at in range(40)], [f"198.51.100.{at}" for at in range(37)]
         places = apart(400_000)
         pairs = [(old[at % 40], new[at % 37]) for at in range(len(places))]

@@ -1,12 +1,12 @@
-"""Each number of feeds from 1 to MAX_FEEDS, all routes that can cover an address, and names of files up to the longest: the whole
-output of each call is compared with a plain model."""
+"""Each number of feeds from 1 to MAX_FEEDS, all routes that can cover an address, and names of files up to the longest:
+the whole output of each call is compared with a plain model."""
 import contextlib
 import ipaddress
 import os
 import pathlib
 
-from dev.models.table_model import (MAX_FEEDS, all_answers_text, answers_text, dotted, json_text, members, ran, row, run_text,
-                                    told_text)
+from dev.models.table_model import (MAX_FEEDS, all_answers_text, answers_text, dotted, json_text, members, ran, row,
+                                    run_text, told_text)
 from tests.launching import LaunchedCase
 
 NEEDS, PROVED = {"program"}, True
@@ -16,7 +16,8 @@ LIMIT = 3
 
 
 def text_of(feed):
-    """Returns the text of a feed with a route to the same prefix as all others, one to the last address, and other routes."""
+    """Returns the text of a feed with a route to the same prefix as all others, one to the last address, and other
+    routes."""
     return f"""version 2
 add 10.0.0.0/8 {(MAX_FEEDS + 1 - feed) // 2} 192.0.2.{feed}
 add 255.255.255.255/32 4294967295 discard
@@ -43,7 +44,8 @@ class Feeds(LaunchedCase):
         names = [f"{feed}.feed" for feed in range(1, count + 1)]
         self.write(dict(zip(names, texts)))
         for batch in ("1", "3", "1024") if count in (1, 2, 5, 9, 17, 40, MAX_FEEDS) else ("2",):
-            self.assert_prints_twice(f"run in batches of {batch}", ["run", "--batch", batch, *names], run_text(texts, set()))
+            self.assert_prints_twice(f"run in batches of {batch}", ["run", "--batch", batch, *names],
+                                     run_text(texts, set()))
         self.assert_queries([text + REJECTED[feed % 4] + "\n" for feed, text in enumerate(texts)], names)
 
     def assert_queries(self, texts, names):
@@ -64,7 +66,8 @@ class Feeds(LaunchedCase):
             *((f"--exact {prefix}", ["table", "--exact", prefix], rows) for prefix, rows in exact.items()),
         ):
             self.assert_prints(name, [call[0], "--limit", LIMIT, *call[1:], *names], stdout, report, 2)
-        self.assert_prints("diff with themselves", ["diff", "--limit", LIMIT, *names, "--", *names], "", report + report, 2)
+        self.assert_prints("diff with themselves", ["diff", "--limit", LIMIT, *names, "--", *names], "",
+                           report + report, 2)
 
     # Catches a refusal of a `dump` of the last feed if the journal has no room: its line 1.
     def test_only_the_last_feed_has_commands(self):
@@ -146,7 +149,8 @@ class Names(LaunchedCase):
                 path = ("d" * 250 + "/") * depth + "n" * size + ".feed"
                 self.write({path: "add 10.0.0.0/8 1 192.0.2.1\n"})
                 self.assert_prints(f"a name of {size} bytes, in {depth} directories",
-                                   ["table", "--names", "--feed", "1", path, "other.feed"], row("10.0.0.0/8", "n" * size))
+                                   ["table", "--names", "--feed", "1", path, "other.feed"],
+                                   row("10.0.0.0/8", "n" * size))
 
     # Catches an output that accepts no text of over 4,096 bytes: `--json with a path of 4085 bytes`.
     def test_longest_paths(self):

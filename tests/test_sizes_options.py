@@ -1,14 +1,14 @@
-"""Most options that change what `table`, `lookup` and `diff` print, at, just above and far above sizes at which a needless
-refusal would show: the whole output of each call is compared with a plain model. The others are `--total`, `--prefixes`,
-`--keep-invalid`, the choice of feeds by `diff`, and `--count` with names or JSON."""
+"""Most options that change what `table`, `lookup` and `diff` print, at, just above and far above sizes at which a
+needless refusal would show: the whole output of each call is compared with a plain model. The others are `--total`,
+`--prefixes`, `--keep-invalid`, the choice of feeds by `diff`, and `--count` with names or JSON."""
 from dev.models.table_model import json_text, members, row
 from tests.launching import LaunchedCase, apart, printed, single_routes
 
 NEEDS, PROVED = {"program"}, True
 SIZES = (1, 64, 65, 2_001, 2_113, 5_001, 65_537, 300_001)
 
-# The options of calls, and the line that each prints for the route of a place {0}, a single address, in the first file, which
-# is named rows.feed.
+# The options of calls, and the line that each prints for the route of a place {0}, a single address, in the first file,
+# which is named rows.feed.
 WHOLE = ("{0}/32", 1, 1, "192.0.2.1")
 OBJECT, NAMED_OBJECT = (json_text(members(WHOLE, **names, file="rows.feed")) for names in ({}, {"name": "rows"}))
 ROW, NAMED_ROW = row("{0}/32").strip(), row("{0}/32", "rows").strip()
@@ -34,8 +34,8 @@ OF_DIFF = [
     (["--by", "route", "--json"], '{"first":"{0}","last":"{0}","old":null,"new":' + OBJECT + "}")]
 
 
-# Catches F3 for --within or --feed with over 2,000 rows, or for JSON with over 5,000: `test_2001_rows`, `table --feed 1`, and
-# `test_5001_rows`, `table --json`.
+# Catches F3 for --within or --feed with over 2,000 rows, or for JSON with over 5,000: `test_2001_rows`, `table --feed
+# 1`, and `test_5001_rows`, `table --json`.
 # Catches F3 for two feeds of over 5,000 rows: `test_5001_rows`, `table --feed 1 --feed 2`.
 class Options(LaunchedCase):
     def assert_forms(self, places, forms, words, files, returncode=0):

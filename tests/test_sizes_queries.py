@@ -1,7 +1,8 @@
-"""Look-ups and lists of sizes at which a needless refusal would show: the whole output of each is compared with a plain model.
+"""Look-ups and lists of sizes at which a needless refusal would show: the whole output of each is compared with a plain
+model.
 
-They have up to 1,300,000 routes, of one feed or of several, up to 2,500,000 addresses, and just fewer and just more of both than
-a forwarding table needs to answer. No option is given here; tests/test_sizes_options.py gives most."""
+They have up to 1,300,000 routes, of one feed or of several, up to 2,500,000 addresses, and just fewer and just more of
+both than a forwarding table needs to answer. No option is given here; tests/test_sizes_options.py gives most."""
 import os
 import subprocess
 
@@ -48,7 +49,8 @@ class ThreeFeeds(LaunchedCase):
     def test_look_ups(self):
         lines = [f"{base} route {self.row(base, 3)}" for base in self.bases]
         self.assert_prints("100,000 addresses", ["lookup", "--addresses", "addresses.txt", *self.WORDS], "".join(lines))
-        also = ["".join(f"{base} also {self.row(base, feed).strip()} preference\n" for feed in (2, 1)) for base in self.bases]
+        also = ["".join(f"{base} also {self.row(base, feed).strip()} preference\n" for feed in (2, 1))
+                for base in self.bases]
         self.assert_prints("all that covers 100,000 addresses",
                            ["lookup", "--all", "--addresses", "addresses.txt", *self.WORDS],
                            "".join(line + more for line, more in zip(lines, also)))
@@ -56,13 +58,14 @@ class ThreeFeeds(LaunchedCase):
 
 # Catches a default limit of 65,536 or 999,999 for a feed of `lookup`, `table` or `diff`: each test of this class.
 class GreatestLimit(LaunchedCase):
-    """A million routes of a feed, as many as `lookup`, `table` and `diff` accept without --limit, and one more, which each of
-    them reports."""
+    """A million routes of a feed, as many as `lookup`, `table` and `diff` accept without --limit, and one more, which
+    each of them reports."""
     OVER = f"yarib: over.feed: adds over the limit: 1, the first is line {MOST + 1}\n"
 
     def setUp(self):
         self.places = apart(MOST + 1, 64)
-        self.write({"none.feed": "", "full.feed": single_routes(self.places[:MOST]), "over.feed": single_routes(self.places)})
+        self.write({"none.feed": "", "full.feed": single_routes(self.places[:MOST]),
+                    "over.feed": single_routes(self.places)})
 
     def test_tables(self):
         listed = "".join(row(f"{place}/32") for place in self.places[:MOST])
@@ -76,7 +79,8 @@ class GreatestLimit(LaunchedCase):
 
     def test_a_comparison(self):
         ranges = "".join(f"{place}-{place} no route -> via 192.0.2.1\n" for place in self.places[:MOST])
-        self.assert_prints("1000001 routes compared with none", ["diff", "none.feed", "--", "over.feed"], ranges, self.OVER, 2)
+        self.assert_prints("1000001 routes compared with none", ["diff", "none.feed", "--", "over.feed"], ranges,
+                           self.OVER, 2)
 
 
 class Addresses(LaunchedCase):
@@ -91,8 +95,8 @@ class Addresses(LaunchedCase):
 
     # Catches F3 for a number of addresses that a forwarding table answers.
     def test_forwarding_tables(self):
-        """Look-ups with the minimum numbers of addresses and routes for a forwarding table, with one less and one more, and with
-        far more."""
+        """Look-ups with the minimum numbers of addresses and routes for a forwarding table, with one less and one more,
+        and with far more."""
         addresses, routes, a_route = FORWARDED
         cases = [(addresses - 1, routes), (addresses, routes), (addresses + 1, routes), (addresses, routes - 1)]
         cases += [(2_500_000, routes), (addresses, 65_001)]
@@ -119,7 +123,8 @@ class RoutesInAll(LaunchedCase):
     # Catches F3 for more than 1,000,000 routes in all: `the table of 1000001 routes in all`.
     def test_tables(self):
         rests = [row("", feed) for feed in range(1, 17)]
-        listed = [prefix + rest for at, prefix in enumerate(self.prefixes) for rest in rests[: 16 if at < self.left else 15]]
+        listed = [prefix + rest for at, prefix in enumerate(self.prefixes)
+                  for rest in rests[: 16 if at < self.left else 15]]
         self.assert_prints("the table of 1000001 routes in all", ["table", *self.names], "".join(listed))
         best = "".join(row(prefix, 1) for prefix in self.prefixes)
         for count, names in ((16, self.names), (64, ["whole.feed"] * 64)):
@@ -162,7 +167,8 @@ class PartOfAMillion(LaunchedCase):
     def peak_of(self, name, words, stdout):
         """Compares the output of a call, and returns its peak of memory in bytes."""
         with self.subTest(name), open(self.folder / "stdout", "w+") as output:
-            process = subprocess.Popen([program(), *words], stdout=output, cwd=self.folder, env=environment() | launched(words[0]))
+            process = subprocess.Popen([program(), *words], stdout=output, cwd=self.folder,
+                                       env=environment() | launched(words[0]))
             _, status, used = os.wait4(process.pid, 0)
             process.returncode = os.waitstatus_to_exitcode(status)
             output.seek(0)

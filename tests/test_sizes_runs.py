@@ -1,7 +1,8 @@
-"""Runs and replays of sizes at which a needless refusal would show: the whole output of each is compared with a plain model.
+"""Runs and replays of sizes at which a needless refusal would show: the whole output of each is compared with a plain
+model.
 
-No clause can say that an allocation succeeds if there is memory. So these are about a million lines and routes of one feed and
-millions of several, batches about the sizes at which lists grow, purges, and long replays."""
+No clause can say that an allocation succeeds if there is memory. So these are about a million lines and routes of one
+feed and millions of several, batches about the sizes at which lists grow, purges, and long replays."""
 import hashlib
 
 from dev.models.table_model import dotted, row, run_text
@@ -16,7 +17,8 @@ ABOUT_POWERS = [power + more for power in (16, 32, 64, 128, 256, 512) for more i
 
 
 def commands(count):
-    """Returns a text with this number of lines: nested routes, with both kinds of next hop, and commands that query them."""
+    """Returns a text with this number of lines: nested routes, with both kinds of next hop, and commands that query
+    them."""
     lines = ["version 2"]
     for at in range(count):
         base = dotted(0x0A00_0000 + (at * 40_503 % 65_536 << 8))
@@ -42,7 +44,8 @@ class Batches(LaunchedCase):
             self.write({"count.feed": "dump\n" * count})
             stdout = "".join(f"1:{line} dumped 0\n" for line in range(1, count + 1)) + "table 0\n"
             for batch in sorted({max(count - 1, 1), count, min(count + 1, 1024)}):
-                self.assert_prints(f"{count} commands in batches of {batch}", ["run", "--batch", batch, "count.feed"], stdout)
+                self.assert_prints(f"{count} commands in batches of {batch}", ["run", "--batch", batch, "count.feed"],
+                                   stdout)
 
     # Catches a `purge` of more than 1,024 routes that is refused if the journal has no room: `a purge of 65536`.
     def test_purges(self):
@@ -121,8 +124,8 @@ class Limits(LaunchedCase):
 
 
 class RoutesInAll(LaunchedCase):
-    # Catches F3 above 200,000 routes, a refusal of a limit over 65,536, or a journal of 200,000 entries or more that never
-    # grows: `300,000 routes of three feeds`.
+    # Catches F3 above 200,000 routes, a refusal of a limit over 65,536, or a journal of 200,000 entries or more that
+    # never grows: `300,000 routes of three feeds`.
     def test_three_feeds(self):
         """300,000 routes of three feeds, the same prefixes for each."""
         bases = [dotted(0x0100_0000 + (at * 40_503 % 100_000 << 8)) for at in range(100_000)]
@@ -132,7 +135,8 @@ class RoutesInAll(LaunchedCase):
         report = "".join(f"{feed}:{line} added\n" for feed in range(1, 4) for line in range(1, 100_001))
         rows = "".join(row(f"{dotted(0x0100_0000 + (at << 8))}/24", feed, 9 - feed, f"192.0.2.{feed}")
                        for at in range(100_000) for feed in (3, 2, 1))
-        self.assert_prints_twice("300,000 routes of three feeds", ["run", "--limit", "100000", "--batch", "256", *names],
+        self.assert_prints_twice("300,000 routes of three feeds",
+                                 ["run", "--limit", "100000", "--batch", "256", *names],
                                  report + "table 300000\n" + rows)
 
     def test_over_a_million(self):
@@ -174,4 +178,5 @@ class Replays(LaunchedCase):
         for count in (20_001, 60_001, 100_000):
             lines = "".join(f"{at + 1} p0 {steps[at % 6]}\n" for at in range(count))
             inside = "p0" if count % 6 >= 4 else "none"
-            self.assert_prints(f"{count} picks", ["replay", "--levels", "1", *["0"] * count], f"{lines}inside {inside}\n")
+            self.assert_prints(f"{count} picks", ["replay", "--levels", "1", *["0"] * count],
+                               f"{lines}inside {inside}\n")

@@ -520,7 +520,7 @@ static void cancel_load(void)
     end();
 }
 
-/* A load waits for the lock of its file. */
+/* A load waits for the lock of its file, and reads nothing before. */
 static void *load_locked(void *file)
 {
     yarib_loaded loaded;
@@ -543,7 +543,7 @@ static void lock_file(void)
     flockfile(file);
     CHECK(pthread_create(&thread, NULL, load_locked, file) == 0);
     while (!atomic_load(&is_waiting)) continue;
-    CHECK(nanosleep(&moment, NULL) == 0 && !atomic_load(&is_over));
+    CHECK(nanosleep(&moment, NULL) == 0 && !atomic_load(&is_over) && ftell(file) == 0);
     funlockfile(file);
     CHECK(pthread_join(thread, NULL) == 0 && atomic_load(&is_over) && fclose(file) == 0);
     end();

@@ -1,8 +1,8 @@
-"""What the tests of the bindings share: the library for C in the forms that they need, and the tests of bindings/c, built by its
-Makefile and run.
+"""What the tests of the bindings share: the library for C in the forms that they need, and the tests of bindings/c,
+built by its Makefile and run.
 
-YARIB_LIBRARY names the directory of a built library, or its shared library; else bindings/build makes one of the archive that
-YARIB_ARCHIVE names, or of the one that was proved here last."""
+YARIB_LIBRARY names the directory of a built library, or its shared library; else bindings/build makes one of the
+archive that YARIB_ARCHIVE names, or of the one that was proved here last."""
 import atexit
 import functools
 import os
@@ -37,7 +37,7 @@ def archive():
     """Returns the path of the proved archive."""
     path = pathlib.Path(os.environ.get("YARIB_ARCHIVE") or CRATES / "yarib_c/out/libyarib_c.a").resolve()
     if not path.exists():
-        raise unittest.SkipTest("there is no proved archive: `dev/build/build yarib_c` makes it, or YARIB_ARCHIVE names one")
+        raise unittest.SkipTest("there is no proved archive; `dev/build/build yarib_c` makes it")
     return path
 
 
@@ -73,8 +73,9 @@ def sanitized(*options):
 def has_options(*options):
     """Returns true if gcc has what these options need."""
     (scratch() / "none.c").write_text("int main(void) { return 0; }\n")
-    compiled = subprocess.run(["gcc", *options, "none.c", "-o", "none"], cwd=scratch(), capture_output=True).returncode == 0
-    return compiled and subprocess.run([scratch() / "none"], capture_output=True).returncode == 0
+    words = ["gcc", *options, "none.c", "-o", "none"]
+    is_compiled = subprocess.run(words, cwd=scratch(), capture_output=True).returncode == 0
+    return is_compiled and subprocess.run([scratch() / "none"], capture_output=True).returncode == 0
 
 
 def shown(page):
@@ -111,7 +112,8 @@ class LibraryCase(TestCase):
         return path
 
     def build(self, name, *options, words=(), libraries=None):
-        """Builds test_NAME.c as the Makefile says, with these options of gcc and words of make, and returns its path."""
+        """Builds test_NAME.c as the Makefile says, with these options of gcc and words of make, and returns its
+        path."""
         plain, without_heap = libraries or (library(), None)
         wanted = re.search(r"^WITH_BARE = (.*)$", (BINDINGS / "c/Makefile").read_text(), re.M)[1].split()
         if name in wanted:
@@ -122,8 +124,8 @@ class LibraryCase(TestCase):
         return self.folder / f"test_{name}"
 
     def run_counted(self, *command, stdout="", least=1, **settings):
-        """Runs a test and counts its comparisons. Before their number it may print what matches `stdout`, which is returned.
-        It fails if there are fewer than `least`."""
+        """Runs a test and counts its comparisons. Before their number it may print what matches `stdout`, which is
+        returned. It fails if there are fewer than `least`."""
         settings.setdefault("timeout", 1800)
         settings["env"] = environment() | settings.get("env", {})
         ended = self.call(*command, **settings)

@@ -5,7 +5,8 @@ from dev.models.table_model import dotted
 
 
 def random_feed(seed):
-    """Returns a text of version 2 without faults: few prefixes, one within another, so that each command meets the others."""
+    """Returns a text of version 2 without faults: few prefixes, one within another, so that each command meets the
+    others."""
     draw, lines = random.Random(seed), ["version 2"]
     for _ in range(draw.choice((40, 400, 2000))):
         length = draw.choice((0, 1, 2, 8, 9, 23, 24, 25, 30, 31, 32))
@@ -28,9 +29,11 @@ def random_lines(seed, size):
     for _ in range(size):
         hop = draw.choice(("discard", dotted(draw.randrange(1 << 32))))
         length = draw.randrange(33)
-        line = f"add {dotted(draw.randrange(1 << length) << 32 - length)}/{length} {draw.choice((0, 7, 4294967295))} {hop}"
+        prefix = f"{dotted(draw.randrange(1 << length) << 32 - length)}/{length}"
+        line = f"add {prefix} {draw.choice((0, 7, 4294967295))} {hop}"
         for _ in range(draw.choice((0, 0, 1, 1, 2))):
             at = draw.randrange(len(line))
-            line = line[:at] + draw.choice(("", "0", "9", " ", ".", "/", "a", line[at] * 2, "255", "\r")) + line[at + draw.randrange(2):]
+            put = draw.choice(("", "0", "9", " ", ".", "/", "a", line[at] * 2, "255", "\r"))
+            line = line[:at] + put + line[at + draw.randrange(2):]
         lines.append(line)
     return lines

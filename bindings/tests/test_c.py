@@ -1,4 +1,5 @@
-"""The library for C, call by call: every status, old names, headers for C and C++, and what each call needs of memory."""
+"""The library for C, call by call: every status, old names, headers for C and C++, and what each call needs of
+memory."""
 import re
 import shutil
 
@@ -16,9 +17,11 @@ FAULTS = {
     "a null pointer": "yarib_free(NULL);",
     "a null pointer to a concurrent table": "yarib_concurrent_free(NULL);",
     "one handle in the place of two": "if (yarib_fib_clone(&table, &table)) return 0;",
-    "a list that is read and written": "yarib_route list[2] = {{0}}; if (yarib_look_up(&table, &list[0].via, 1, list, 1)) return 0;",
+    "a list that is read and written":
+        "yarib_route list[2] = {{0}}; if (yarib_look_up(&table, &list[0].via, 1, list, 1)) return 0;",
 }
-CONSTANTS = ("#include <yarib.h>\nstatic yarib plain = YARIB_INIT;\nstatic yarib_concurrent table = YARIB_CONCURRENT_INIT;\n"
+CONSTANTS = ("#include <yarib.h>\n"
+             "static yarib plain = YARIB_INIT;\nstatic yarib_concurrent table = YARIB_CONCURRENT_INIT;\n"
              "int main(void) { yarib own = YARIB_INIT; return plain.inside || table.inside || own.inside; }\n")
 IN_CPP = "#include <yarib.h>\nint main() { yarib table = YARIB_EMPTY; yarib_free(&table); return 0; }\n"
 
@@ -40,8 +43,8 @@ class Calls(LibraryCase):
         """Calls inside other calls on one handle run or are busy."""
         self.run_counted(self.build("busy"), least=50)
 
-    # Catches an `apply` that allocates more than the nodes of a new route, or in another command, even if it frees the block at
-    # once; a `look_up` of many that allocates; and a `reserve` that reserves too little, or again.
+    # Catches an `apply` that allocates more than the nodes of a new route, or in another command, even if it frees the
+    # block at once; a `look_up` of many that allocates; and a `reserve` that reserves too little, or again.
     def test_requests(self):
         """A new route needs one node or two, and no other command allocates, in a small table and a large one."""
         self.run_counted(self.build("requests"), least=100_000)
@@ -59,7 +62,8 @@ class Calls(LibraryCase):
         self.run_counted(self.build("followed"), least=1000)
 
     def test_changed(self):
-        """A command's changes of best routes are those of a model, also in a concurrent table, and nothing is written past them."""
+        """A command's changes of best routes are those of a model, also in a concurrent table, and nothing is written
+        past them."""
         sanitizers = ("-g", "-fsanitize=address,undefined")
         self.run_counted(self.build("changed", *sanitizers * has_options(*sanitizers)), least=1000)
 
@@ -92,7 +96,8 @@ class FirstCalls(LibraryCase):
 class Headers(LibraryCase):
     def compile(self, compiler, file, *options):
         """Compiles and links a file of the test's directory, and returns the path of the program."""
-        self.assert_ended(self.call(compiler, "-I", BINDINGS / "c", *options, file, library() / "libyarib.a", "-o", "made"))
+        words = [compiler, "-I", BINDINGS / "c", *options, file, library() / "libyarib.a", "-o", "made"]
+        self.assert_ended(self.call(*words))
         return self.folder / "made"
 
     @needs_command("g++")
@@ -112,8 +117,8 @@ class Headers(LibraryCase):
     def test_faults(self):
         for name, fault in FAULTS.items():
             with self.subTest(name):
-                text = f"#include <yarib.h>\nint main(void) {{ yarib table = YARIB_EMPTY; (void)table; {fault} return 0; }}\n"
-                self.write({"fault.c": text})
+                main = f"int main(void) {{ yarib table = YARIB_EMPTY; (void)table; {fault} return 0; }}\n"
+                self.write({"fault.c": f"#include <yarib.h>\n{main}"})
                 made = self.compile("gcc", "fault.c", *STRICT, "-DYARIB_CHECK")
                 self.assertNotEqual(self.call(made).returncode, 0)
 
@@ -146,10 +151,12 @@ class Exports(LibraryCase):
     def test_processors(self):
         """On a processor that is too old, the library ends the program with a message."""
         for name in LIBRARIES:
-            self.assert_ended(self.call("gcc", "-O1", *STRICT, "-o", "example", BINDINGS / "c/example.c", library() / name))
+            words = ["gcc", "-O1", *STRICT, "-o", "example", BINDINGS / "c/example.c", library() / name]
+            self.assert_ended(self.call(*words))
             for processor, status in (("core2duo", 127), ("Nehalem", 0)):
                 with self.subTest(f"{name} on {processor}"):
-                    ended = self.call("qemu-x86_64", "-cpu", processor, "-E", f"LD_LIBRARY_PATH={library()}", "./example")
+                    ended = self.call("qemu-x86_64", "-cpu", processor, "-E", f"LD_LIBRARY_PATH={library()}",
+                                      "./example")
                     self.assertEqual(ended.returncode, status)
                     self.assertEqual(len(ended.stderr.splitlines()), int(status == 127))
                     self.assertEqual("x86-64-v2" in ended.stderr, status == 127)

@@ -11,8 +11,8 @@ LACKS = '#include <stdlib.h>\n#define LACKS(k) (getenv("LACKS") && atoi(getenv("
 
 
 def with_lacks(text):
-    """Returns the header's text, in which the part of an obligation isn't tested whose number LACKS in the environment is,
-    and these parts."""
+    """Returns the header's text, in which the part of an obligation isn't tested whose number LACKS in the environment
+    is, and these parts."""
     parts = []
 
     def lacking(place):
@@ -36,7 +36,8 @@ class Checks(LibraryCase):
         shutil.copy(BINDINGS / "c/yarib.h", self.folder)
         for name in ("test_checks.c", "check.h"):
             shutil.copy(BINDINGS / "c" / name, self.folder)
-        self.assert_ended(self.call("gcc", "-std=c99", "-I", ".", "-o", "lacking", "test_checks.c", library() / "libyarib.a"))
+        words = ["gcc", "-std=c99", "-I", ".", "-o", "lacking", "test_checks.c", library() / "libyarib.a"]
+        self.assert_ended(self.call(*words))
         self.assertGreater(len(parts), 100)
         for number, part in enumerate([*parts, "nothing"]):
             with self.subTest(f"{number}: {part}"):

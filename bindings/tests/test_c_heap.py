@@ -52,7 +52,8 @@ class Leaks(LibraryCase):
     def run_tested(self, name, kind, *checker, options=()):
         self.write({"a.feed": random_feed(7)})
         test = self.build(name, *options, libraries=(made("seen", CFLAGS=f"-O2 {NO_SLABS}"), None))
-        self.run_counted(*checker, test, *(["a.feed", "1000", kind] if name == "report" else []), stdout=r"(?s:.*)", least=50)
+        words = ["a.feed", "1000", kind] if name == "report" else []
+        self.run_counted(*checker, test, *words, stdout=r"(?s:.*)", least=50)
 
     @needs_command("valgrind")
     def test_valgrind(self):

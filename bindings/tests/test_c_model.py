@@ -1,4 +1,5 @@
-"""The model of places and publications has no wrong state, each wrong protocol has one, and the code has the model's steps."""
+"""The model of places and publications has no wrong state, each wrong protocol has one, and the code has the model's
+steps."""
 import re
 
 from bindings.tests.library import BINDINGS, LibraryCase
@@ -6,7 +7,8 @@ from dev.testing import needs_command
 
 NEEDS = {"library"}
 
-OPERATION = re.compile(r"__atomic_(\w+?)(?:_n)?\(((?:[^()]|\([^()]*(?:\([^()]*\))?[^()]*\))*)\)|membarrier\(MEMBARRIER_CMD_PRIVATE")
+OPERATION = re.compile(r"__atomic_(\w+?)(?:_n)?\(((?:[^()]|\([^()]*(?:\([^()]*\))?[^()]*\))*)\)"
+                       r"|membarrier\(MEMBARRIER_CMD_PRIVATE")
 MODEL = BINDINGS / "c/test_model.c"
 
 

@@ -16,7 +16,8 @@ EXAMPLES = ("example", "example_readers", "example_daemon")
 
 def names_of_tests():
     """Returns the names of the tests in the sources."""
-    return [name for file in sorted(GO.glob("*_test.go")) for name in re.findall(r"^func (Test\w+)\(", file.read_text(), re.M)]
+    files = sorted(GO.glob("*_test.go"))
+    return [name for file in files for name in re.findall(r"^func (Test\w+)\(", file.read_text(), re.M)]
 
 
 class GoCase(LibraryCase):
@@ -66,7 +67,8 @@ class Go(GoCase):
     def test_examples(self):
         for name in EXAMPLES:
             with self.subTest(name):
-                self.assert_ended(self.go("run", f"./{name}", flags=None), shown("go/README.md")[f"go run ./{name}"], None)
+                ended = self.go("run", f"./{name}", flags=None)
+                self.assert_ended(ended, shown("go/README.md")[f"go run ./{name}"], None)
 
 
 @needs_command("go", "pkg-config")
@@ -75,8 +77,8 @@ class Vendored(GoCase):
         """A program that vendors Go's package and links the installed library builds without a network."""
         prefix, module = self.folder / "prefix", re.search(r"^module (\S+)$", (GO / "go.mod").read_text(), re.M)[1]
         self.assert_ended(self.call(TOP / "install", "--library", prefix), None, None)
-        self.write({"caller/go.mod": f"module caller\n\ngo 1.19\n\nrequire {module} v{VERSION}\n\nreplace {module} => ../package\n",
-                    "caller/main.go": (GO / "example/main.go").read_text()})
+        text = f"module caller\n\ngo 1.19\n\nrequire {module} v{VERSION}\n\nreplace {module} => ../package\n"
+        self.write({"caller/go.mod": text, "caller/main.go": (GO / "example/main.go").read_text()})
         shutil.copytree(GO, self.folder / "package")
         how = {"cwd": "caller", "flags": "-tags=yarib_pkgconfig", "PKG_CONFIG_PATH": str(prefix / "lib/pkgconfig"),
                "LD_LIBRARY_PATH": str(prefix / "lib")}

@@ -8,7 +8,8 @@ from dev.versions import VERSION
 
 NEEDS = {"library"}
 
-FILES = ("include/yarib.h", "include/yarib_check.h", "lib/libyarib.a", "lib/libyarib.so", "lib/libyarib.so.0", "lib/pkgconfig/yarib.pc")
+FILES = ("include/yarib.h", "include/yarib_check.h", "lib/libyarib.a", "lib/libyarib.so", "lib/libyarib.so.0",
+         "lib/pkgconfig/yarib.pc")
 LISTS = f"""cmake_minimum_required(VERSION 3.13)
 project(caller C)
 find_package(yarib 99.0 QUIET CONFIG)
@@ -64,7 +65,8 @@ class Installed(InstalledCase):
                 self.assertRegex(manual, rf"[ *]{name}\(")
 
     def test_remove(self):
-        self.assert_ended(self.call(TOP / "install", "--library", "--remove", self.prefix, env=self.settings), None, None)
+        ended = self.call(TOP / "install", "--library", "--remove", self.prefix, env=self.settings)
+        self.assert_ended(ended, None, None)
         self.assertEqual([path.name for path in self.prefix.rglob("*")] if self.prefix.exists() else [], [])
 
 

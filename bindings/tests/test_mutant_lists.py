@@ -73,7 +73,8 @@ class Places(TestCase):
 
     def test_the_named_function(self):
         """Another function may have the same text."""
-        self.assertEqual(self.changed("Two.__exit__"), TWO_CLASSES.replace("\n        self.close()\n\n\nself", "\n        pass\n\n\nself"))
+        expected = TWO_CLASSES.replace("\n        self.close()\n\n\nself", "\n        pass\n\n\nself")
+        self.assertEqual(self.changed("Two.__exit__"), expected)
 
     def test_outside_functions(self):
         self.assertEqual(self.changed(None), TWO_CLASSES.removesuffix("self.close()\n") + "pass\n")

@@ -11,4 +11,3 @@ class Mutants(CMutants):
 
 
 add_mutants(Mutants, "c", r"heap\.c|files\.c")
-del CMutants

@@ -11,4 +11,3 @@ class Mutants(CMutants):
 
 
 add_mutants(Mutants, "c", r"places\.c|handles\.c|layer\.h")
-del CMutants

@@ -11,4 +11,3 @@ class Mutants(CMutants):
 
 
 add_mutants(Mutants, "c", r"readers\.c|copies\.c")
-del CMutants

@@ -20,4 +20,3 @@ class Mutants(MutantCase):
 
 
 add_mutants(Mutants, "go")
-del MutantCase

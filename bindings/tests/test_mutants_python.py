@@ -18,10 +18,9 @@ class Mutants(MutantCase):
     def fails(self, mutant):
         settings = environment() | {"YARIB_LIBRARY": str(library() / "libyarib.so.0"), "PYTHONDONTWRITEBYTECODE": "1",
                                     "YARIB_VECTORS": str(self.vectors()), "PYTHONPATH": str(TOP)}
-        ended = self.call(sys.executable, "-c", BEGIN, "-f", f"tests.{mutant.noticed_by}", cwd=self.copy_of("python"), env=settings,
-                          timeout=1800)
+        ended = self.call(sys.executable, "-c", BEGIN, "-f", f"tests.{mutant.noticed_by}", cwd=self.copy_of("python"),
+                          env=settings, timeout=1800)
         return ended.returncode != 0 and re.search(r"^(FAIL|ERROR): test_", ended.stderr, re.M) is not None
 
 
 add_mutants(Mutants, "python")
-del MutantCase

@@ -11,4 +11,3 @@ class Mutants(RustMutants):
 
 
 add_mutants(Mutants, "rust", r"src/lib\.rs")
-del RustMutants

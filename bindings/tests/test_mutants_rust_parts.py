@@ -11,4 +11,3 @@ class Mutants(RustMutants):
 
 
 add_mutants(Mutants, "rust", r"src/(?!lib)\w+\.rs")
-del RustMutants

@@ -11,8 +11,8 @@ NEEDS = {"library"}
 class Pages(LibraryCase):
     def compile(self, name, *options):
         """Compiles an example of C in the test's directory, with every warning on."""
-        self.assert_ended(self.call("gcc", "-O1", *STRICT, "-pthread", *options, "-o", name, BINDINGS / "c" / f"{name}.c",
-                                    library() / "libyarib.a"))
+        self.assert_ended(self.call("gcc", "-O1", *STRICT, "-pthread", *options, "-o", name,
+                                    BINDINGS / "c" / f"{name}.c", library() / "libyarib.a"))
 
     def test_examples_of_c(self):
         for name in ("example", "example_readers"):
@@ -21,7 +21,8 @@ class Pages(LibraryCase):
                 self.assert_ended(self.call(f"./{name}"), shown("c/README.md")[f"./{name}"], None)
 
     def test_examples_of_python(self):
-        settings = environment() | {"YARIB_LIBRARY": str(library() / "libyarib.so.0"), "PYTHONPATH": str(BINDINGS / "python")}
+        settings = environment() | {"YARIB_LIBRARY": str(library() / "libyarib.so.0"),
+                                    "PYTHONPATH": str(BINDINGS / "python")}
         for name in ("example.py", "example_daemon.py"):
             with self.subTest(name):
                 ended = self.call(sys.executable, BINDINGS / "python" / name, env=settings)

@@ -27,7 +27,8 @@ def with_library():
 class Types(LibraryCase):
     @needs_command("mypy")
     def test_annotations(self):
-        ended = self.call("mypy", "--strict", "--python-version", "3.9", "--cache-dir", scratch() / "mypy", "yarib", cwd=PACKAGE)
+        words = ["mypy", "--strict", "--python-version", "3.9", "--cache-dir", scratch() / "mypy", "yarib"]
+        ended = self.call(*words, cwd=PACKAGE)
         number = len(list((PACKAGE / "yarib").glob("*.py")))
         self.assert_ended(ended, f"Success: no issues found in {number} source files\n", None)
 
@@ -63,6 +64,7 @@ class Wheel(LibraryCase):
 
     def test_a_wheel_of_1970(self):
         """No file of a zip had a time in 1970."""
-        settings = environment() | {"PYTHONPATH": str(PACKAGE), "PYTHONDONTWRITEBYTECODE": "1", "SOURCE_DATE_EPOCH": "0"}
+        settings = environment() | {"PYTHONPATH": str(PACKAGE), "PYTHONDONTWRITEBYTECODE": "1",
+                                    "SOURCE_DATE_EPOCH": "0"}
         ended = self.call(sys.executable, "-c", WHEEL, env=settings)
         self.assert_ended(ended, f"yarib-{version()}-py3-none-any.whl yarib-{version()}.tar.gz\n")

@@ -25,8 +25,8 @@ def names_of_tests():
 class CargoCase(LibraryCase):
     def cargo(self, *words, **settings):
         """Calls cargo, which keeps what it compiles for later calls."""
-        settings["env"] = environment() | {"YARIB_LIB": str(library()), "CARGO_TARGET_DIR": str(cache("bindings") / "target"),
-                                           "YARIB_VECTORS": str(self.vectors())}
+        settings["env"] = environment() | {"YARIB_LIB": str(library()), "YARIB_VECTORS": str(self.vectors()),
+                                           "CARGO_TARGET_DIR": str(cache("bindings") / "target")}
         return self.call("cargo", *words, cwd=RUST, timeout=1800, **settings)
 
 
@@ -48,7 +48,8 @@ class Rust(CargoCase):
                 self.assert_ended(ended, shown("rust/README.md")[f"cargo run --example {name}"], None)
 
     def test_metadata(self):
-        package = json.loads(self.cargo("metadata", "--offline", "--no-deps", "--format-version", "1").stdout)["packages"][0]
+        ended = self.cargo("metadata", "--offline", "--no-deps", "--format-version", "1")
+        package = json.loads(ended.stdout)["packages"][0]
         expected = {"version": VERSION, "license": None, "publish": [], "readme": "README.md", "repository": None,
                     "rust_version": "1.70"}
         self.assertEqual({name: package[name] for name in expected}, expected)

@@ -11,8 +11,6 @@ import functools
 import hashlib
 import os
 import re
-import shutil
-import subprocess
 import tempfile
 
 from dev.build.built import PARTS
@@ -25,27 +23,11 @@ SCRIPTS = ("dev/mutants/*", "dev/build/workspaces.py", "dev/statements/definitio
            "dev/rust_sources.py", "dev/crates.py")
 
 
-# Libraries that gcc needs for tests under sanitizers.
-SANITIZERS = ("libasan.so", "libtsan.so", "libubsan.so")
-
-
 @functools.cache
 def toolchain():
     """Returns what identifies the prover."""
     prover = os.stat(kit() / "bin/rattle")
     return [(kit() / name).read_bytes() for name in ("KIT-ID", "WHAT")], prover.st_size, prover.st_mtime_ns
-
-
-def machine(commands):
-    """Returns what identifies each of these commands on this machine, or None for a missing one; of gcc also which of its
-    sanitizers are there."""
-    found = [(name, shutil.which(name)) for name in sorted(set(commands))]
-    known = [(name, path and (os.path.realpath(path), os.stat(path).st_size, os.stat(path).st_mtime_ns))
-             for name, path in found]
-    for library in SANITIZERS if ("gcc", None) not in found and "gcc" in commands else ():
-        known.append((library, subprocess.run(["gcc", f"-print-file-name={library}"], stdout=subprocess.PIPE,
-                                              text=True).stdout.strip()))
-    return known
 
 
 class Entry:

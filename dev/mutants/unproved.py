@@ -1,5 +1,6 @@
-"""The mutants of what isn't proved: the C layer and the bindings of Python, Go and Rust. bindings/LANGUAGE/must-fail/mutants.md
-lists them in the form of the crates' mutants, with the test that has to notice each in the place of the prover's function:
+"""The mutants of what isn't proved: the C layer and the bindings of Python, Go and Rust.
+bindings/LANGUAGE/must-fail/mutants.md lists them in the form of the crates' mutants, with the test that has to notice
+each in the place of the prover's function:
 
     ## a-change-asks-for-no-barrier
 
@@ -11,8 +12,8 @@ lists them in the form of the crates' mutants, with the test that has to notice 
     noticed by: test_daemon refuse_barriers
     ```
 
-`⏎` denotes the end of a line. The old text is in the function that is named exactly once, as NAME, or TYPE.NAME for a method; without
-a line `in:` it is outside all functions exactly once. So other functions may have the same text."""
+`⏎` denotes the end of a line. The old text is in the function that is named exactly once, as NAME, or TYPE.NAME for a
+method; without a line `in:` it is outside all functions exactly once. So other functions may have the same text."""
 import ast
 import functools
 import re
@@ -79,7 +80,8 @@ def python_functions(text):
 
 
 def end_of(lines, first, indent):
-    """Returns the last line of a function that begins on this line: that of its closing brace, or of its declaration."""
+    """Returns the last line of a function that begins on this line: that of its closing brace, or of its
+    declaration."""
     opening = next(at for at in range(first, len(lines)) if lines[at].endswith(("{", "}", ";")))
     if not lines[opening].endswith("{"):
         return opening
@@ -87,7 +89,8 @@ def end_of(lines, first, indent):
 
 
 def indented_functions(text, head):
-    """Returns the functions of a module of Go or Rust, and the methods after the type's name, by how they are indented."""
+    """Returns the functions of a module of Go or Rust, and the methods after the type's name, by how they are
+    indented."""
     lines, starts, found, owner = text.splitlines(), offsets(text), [], ""
     for number, line in enumerate(lines):
         if kind := RUST_TYPE.match(line):

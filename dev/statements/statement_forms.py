@@ -7,7 +7,7 @@
 import re
 
 WIDTH = 120
-# Between two cases, fields or clauses on one line.
+# Between two cases or fields on one line.
 GAP = ";  "
 KEYWORDS = re.compile(r"^(\s*)(?:(?:pub|abbrev|unfoldable) )+")
 LITERAL = re.compile(r'"(?:[^"\\]|\\.)*"')

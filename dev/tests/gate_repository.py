@@ -7,7 +7,6 @@ import json
 import os
 import pathlib
 import shutil
-import signal
 import subprocess
 import tempfile
 
@@ -109,12 +108,6 @@ esac
 echo "yarib_c proved"
 echo "20 passed, 0 failed"
 """
-
-
-def heed_signals():
-    """Undoes that whoever started the tests in the background had them ignore signals, which a shell can't."""
-    for number in (signal.SIGINT, signal.SIGHUP):
-        signal.signal(number, signal.SIG_DFL)
 
 
 class Repository:

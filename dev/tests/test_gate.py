@@ -9,7 +9,8 @@ import subprocess
 import time
 import unittest
 
-from dev.tests.gate_repository import LISTED, MODULES, QUICK, GateTest, heed_signals
+from dev.tests.gate_repository import LISTED, MODULES, QUICK, GateTest
+from dev.tests.stub_toolchain import heed_signals
 
 # Variables that a caller may have set for other work.
 OTHERS = {"YARIB_UNPROVED": "1", "YARIB_ARCHIVE": "/none", "YARIB_LIBRARY": "/none", "YARIB_OTHER": "1", "YARIB_PROGRAM": "/none"}

@@ -177,7 +177,7 @@ class Mutants(KeptTest):
     def test_again(self):
         self.assert_gate(self.BOTH)
         self.assert_gate(self.KEPT)
-        self.assertIn("small: 2 of 3 mutants were as they must be in earlier runs",
+        self.assertIn("small: 2 of 3 mutants were refused in earlier runs on this machine",
                       self.run_tool("dev/mutants/mutants", "--gate", "--crate", "small")[0].stdout)
 
     def test_anew(self):

@@ -1,5 +1,6 @@
 """The rules of pages, sources and scripts refuse what they are for: each runs in a copy that has a fault."""
 import pathlib
+import re
 import shutil
 import sys
 import tempfile
@@ -111,4 +112,4 @@ def refuses(*fault):
 
 
 for name, *fault in FAULTS:
-    setattr(Rules, f"test_{name.replace(' ', '_')}", refuses(*fault))
+    setattr(Rules, "test_" + re.sub(r"\W+", "_", name), refuses(*fault))

@@ -215,14 +215,14 @@ class Steps(VerdictTest):
     def test_what_was_kept_and_left_out(self):
         self.begin()
         self.write({"notes/whole": "", "notes/said": "rt: rt_diff is kept: it was proved here\nrt: rt_fib proved\n",
-                    "notes/mutants": "small: 3 of 4 mutants were as they must be in earlier runs on this machine\n"
-                                     "none: 0 of 4 mutants were as they must be in earlier runs on this machine\n",
+                    "notes/mutants": "small: 3 of 4 mutants were refused in earlier runs on this machine\n"
+                                     "none: 0 of 4 mutants were refused in earlier runs on this machine\n",
                     "notes/definitions": "the changes were tried in an earlier run on this machine\n",
                     "notes/output.one": b"left out: a case, since it can't run here\n\xff\n"})
         found = self.end("full", "0")
         self.assertEqual(found["verdict"], "passed")
         self.assertEqual(found["kept"], ["rt: rt_diff is kept: it was proved here",
-                                         "small: 3 of 4 mutants were as they must be in earlier runs on this machine",
+                                         "small: 3 of 4 mutants were refused in earlier runs on this machine",
                                          "the changes were tried in an earlier run on this machine"])
         self.assertEqual(found["left_out"], ["left out: a case, since it can't run here"])
 

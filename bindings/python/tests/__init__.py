@@ -3,7 +3,8 @@
     python3 -m unittest                                # all of them
     python3 -m unittest tests.test_calls.Borders       # some
 
-YARIB_LIBRARY names another library, or its directory, and YARIB_VECTORS a file of test vectors, which is written otherwise."""
+YARIB_LIBRARY names another library, or its directory, and YARIB_VECTORS a file of test vectors, which is written
+otherwise."""
 import atexit
 import os
 import pathlib

@@ -1,5 +1,5 @@
-"""What the tests of Python's binding share: arguments and results of the test vectors, which dev/models/table_vectors.py
-describes, and cases that fail if a call never ends."""
+"""What the tests of Python's binding share: arguments and results of the test vectors, which
+dev/models/table_vectors.py describes, and cases that fail if a call never ends."""
 import array
 import functools
 import ipaddress
@@ -26,8 +26,8 @@ def in_order(route):
 
 
 def sections(kind):
-    """Returns the sections of this kind: the words of the first line, and of each other line the words of its call and of its
-    answer. dev/models/table_vectors.py describes them."""
+    """Returns the sections of this kind: the words of the first line, and of each other line the words of its call and
+    of its answer. dev/models/table_vectors.py describes them."""
     found = []
     for line in pathlib.Path(os.environ["YARIB_VECTORS"]).read_text().splitlines():
         call, is_call, answer = line.partition(" =")

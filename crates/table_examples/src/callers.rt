@@ -11,21 +11,21 @@ use rt_trie::{Trie, Walk};
 use std::alloc::Allocator;
 
 /// Returns a map without pairs. Needs `rt_trie::Trie::new.pairs`.
-pub fn empty_map<V, A: Allocator>(alloc: A) -> Trie<V, A>
+pub fn empty_map<V, A: Allocator + Copy>(alloc: A) -> Trie<V, A>
     ensures { result.pairs ≡ [] }
 {
     Trie::new(alloc)
 }
 
 /// Returns the number of pairs of a map, which are ordered. Needs `rt_trie::Trie::len.ordered`.
-pub fn size_of_ordered<V, A: Allocator>(map: &Trie<V, A>) -> usize
+pub fn size_of_ordered<V, A: Allocator + Copy>(map: &Trie<V, A>) -> usize
     ensures { IsOrdered map.now.pairs }
 {
     map.len()
 }
 
 /// Returns the pairs of a map, which are ordered. Needs `rt_trie::Trie::walk.ordered`.
-pub fn ordered_pairs<V, A: Allocator>(map: &Trie<V, A>) -> Walk<'_, V, A>
+pub fn ordered_pairs<V, A: Allocator + Copy>(map: &Trie<V, A>) -> Walk<'_, V, A>
     ensures { IsOrdered result }
 {
     map.walk()
