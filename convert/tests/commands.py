@@ -18,6 +18,8 @@ import sys
 import tempfile
 from typing import Callable, NamedTuple
 
+from dev import testing
+
 CONVERT = pathlib.Path(__file__).resolve().parents[1]
 VARIABLE = "YARIB_CONVERTERS"
 
@@ -49,8 +51,9 @@ def table_named(text):
 
 
 def environment():
-    """Returns the environment of the converters: Python keeps what it compiled of them where nothing else looks for it."""
-    kept = {name: value for name, value in os.environ.items() if name != "PYTHONDONTWRITEBYTECODE"}
+    """Returns the environment of the converters, which is the same whoever calls. Python keeps what it compiled of them where
+    nothing else looks for it."""
+    kept = {name: value for name, value in testing.environment().items() if name != "PYTHONDONTWRITEBYTECODE"}
     return kept | {"PYTHONPYCACHEPREFIX": COMPILED.name}
 
 

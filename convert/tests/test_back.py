@@ -10,7 +10,7 @@ from convert.tests.converting import ConverterCase, many, rows_of, table_text
 from dev.crates import TOP
 from dev.models.table_model import route_text
 from dev.testing import call as call_command
-from dev.testing import needs_command, program
+from dev.testing import environment, needs_command, program
 
 NEEDS = {"program"}
 FORMS = ("bird", "frr", "ip")
@@ -119,8 +119,8 @@ class FromTheProgram(ConverterCase):
         self.write({"after/upstream_b.feed": before.replace(backup, "")})
         (self.folder / "yarib").symlink_to(program())
         lost = route_text("10.0.0.0/8", "upstream_b", 2, "192.0.2.9")
-        self.assert_ended(self.call("bash", "-c", line[0]), f"3d2\n< {lost}\n", returncode=1)
-        self.assert_ended(self.call("bash", "-c", "./yarib diff before/*.feed -- after/*.feed"))
+        self.assert_ended(self.call("bash", "-c", line[0], env=environment()), f"3d2\n< {lost}\n", returncode=1)
+        self.assert_ended(self.call("bash", "-c", "./yarib diff before/*.feed -- after/*.feed", env=environment()))
 
 
 class Hosts(ConverterCase):

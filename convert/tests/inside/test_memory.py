@@ -34,6 +34,18 @@ def lock_and_move(descriptor, how):
         os.rename({new!r}, {aside!r})
 folders.fcntl.flock = lock_and_move
 """
+# The record in the new directory is removed and made again right after it was opened for the first time.
+MADE_AGAIN = """
+import folders
+lock, locked = folders.fcntl.flock, []
+def lock_and_make(descriptor, how):
+    lock(descriptor, how)
+    if not locked:
+        locked.append(descriptor)
+        os.unlink({record!r})
+        open({record!r}, "w").close()
+folders.fcntl.flock = lock_and_make
+"""
 
 
 class Memory(InsideCase):
@@ -81,6 +93,13 @@ class Directory(InsideCase):
         self.assertEqual((names_in(self.folder), names_in(self.folder / "feeds"), names_in(aside)),
                          (["aside", "feeds"], [".written", "127.0.0.1.feed"], [".written"]))
         self.assertEqual((aside / ".written").read_text(), "")
+
+    def test_record_that_is_made_again(self):
+        """A record that another converter made anew meanwhile is the one that is locked and written."""
+        changed = MADE_AGAIN.format(record=str(self.folder / ".feeds.new/.written"))
+        ended = self.convert_with(changed, "bgpdump-to-feeds", DUMP, folder="feeds")
+        self.assertEqual(ended[:3], (0, "", "accepted 1 routes; omitted nothing\n"))
+        self.assertIn("127.0.0.1.feed", (self.folder / "feeds/.written").read_text())
 
 
 add_tests(Memory, "limits", check_limits, {
