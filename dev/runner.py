@@ -52,7 +52,7 @@ def about(module):
     constants = {}
     for line in source_of(module).body:
         if isinstance(line, ast.Assign):
-            [target] = line.targets
+            target = line.targets[0]
             pairs = zip(target.elts, getattr(line.value, "elts", ())) if isinstance(target, ast.Tuple) else [(target, line.value)]
             constants |= {name.id: value for name, value in pairs if isinstance(name, ast.Name)}
     needs, proved, alone = (ast.literal_eval(constants[name]) if name in constants else without
