@@ -23,13 +23,14 @@ class Names(ProgramCase):
             ("-- --limit", "--limit"),
         ):
             self.assert_unreadable(f"run {words}", file)
-        for name in ("", "no such file", "né.feed", "x" * 300, "/no/such/file", "-", "it's $HOME"):
+        for name in ("", "no such file", "né.feed", "x" * 300, "/no/such/file", "-", "it's $HOME",
+                     "a missing name\nof two lines", "y" * 5_000):
             self.assert_unreadable(["run", name], name, name=f"the missing file {name[:20]!r}")
 
     # Catches a program that can't read a file with a name of 300 bytes: the file.
     def test_names(self):
         long, absolute = "d" * 150 + "/" + "f" * 149, str(self.folder / "absolute.feed")
-        for name in ("a name.feed", "é.feed", " ", "it's $HOME", "ＡＢＣ", long, absolute):
+        for name in ("a name.feed", "é.feed", " ", "it's $HOME", "ＡＢＣ", "a name\nof two lines", long, absolute):
             self.write({name: ROW})
             self.assert_prints(["run", name], ROW_OUT, name="an absolute path" if name == absolute else repr(name[:20]))
 

@@ -1,5 +1,5 @@
 """Runs the program on paths that aren't files, on files that can't be read, on pipes among long files, which several
-threads read, on odd names, and with outputs that accept nothing."""
+threads read, and with outputs that accept nothing."""
 import os
 import pathlib
 import resource
@@ -102,14 +102,6 @@ class Files(FileCase):
             every = f"10.0.0.1 route {first}\n" + "".join(f"10.0.0.1 also {line} feed\n" for line in others)
             self.assert_prints(f"all that covers, in {name} files",
                                ["lookup", "--all", "--address", "10.0.0.1", *[file] * count], every)
-
-    def test_odd_names(self):
-        name = str(self.folder / "a name\nof two lines")
-        self.write({name: ROW})
-        self.assert_prints("with a space and an LF", ["run", name], ROW_OUT)
-        self.assert_unreadable("missing, with an LF", ["run", name + "x"], name + "x")
-        self.assert_prints("no text", ["run", b"\xff.feed"], "", "yarib: arguments are not UTF-8\n", 3)
-        self.assert_unreadable("of 5,000 bytes", ["run", "x" * 5_000], "x" * 5_000)
 
 
 class Pipes(FileCase):
