@@ -42,7 +42,7 @@ class Built(TestCase):
         build = subprocess.Popen([self.build, "one"], stdout=subprocess.PIPE, stderr=subprocess.PIPE, text=True)
         self.addCleanup(build.communicate)
         while build.poll() is None:
-            for child in pathlib.Path(f"/proc/{build.pid}/task/{build.pid}/children").read_text().split():
+            for child in self.call("cat", *pathlib.Path(f"/proc/{build.pid}/task").glob("*/children")).stdout.split():
                 if b"rattle\0build" in pathlib.Path(f"/proc/{child}/cmdline").read_bytes():
                     return build, int(child)
             time.sleep(0.01)
