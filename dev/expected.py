@@ -9,15 +9,15 @@ from dev.crates import TOP, all_crates
 EXPECTED = TOP / "tests/expected.txt"
 # What the last runs recorded of each test, for `./test --expected`.
 RECORDS = TOP / "out/tests"
-HEAD = """# Each test with its number of assertions (- if it depends on time, chance or the machine), each subTest, mutant,
-# change of a definition and proved crate. `./test --expected` writes this file.
+HEAD = """# Each test with its number of assertions (- if it depends on time, chance or the machine, ? if it was always left out),
+# each subTest, mutant, change of a definition and proved crate. `./test --expected` writes this file.
 """
-LINE = re.compile(r"(?P<test>[\w.]+) (?:(?P<number>\d+|-)|(?P<part>\[.*\]))")
+LINE = re.compile(r"(?P<test>[\w.]+) (?:(?P<number>\d+|[-?])|(?P<part>\[.*\]))")
 
 
 def read():
-    """Returns the expected tests, each with its number of assertions, which may be None, and the names of its subTests; and
-    the lines of all else."""
+    """Returns the expected tests, each with its number of assertions as HEAD describes it, and the names of its subTests;
+    and the lines of all else."""
     tests, others = {}, set()
     lines = EXPECTED.read_text().splitlines() if EXPECTED.exists() else []
     for line in lines:
@@ -28,15 +28,20 @@ def read():
         elif found["part"]:
             tests[found["test"]][1].add(found["part"])
         else:
-            tests[found["test"]] = (None if found["number"] == "-" else int(found["number"])), set()
+            tests[found["test"]] = found["number"], set()
     return tests, others
 
 
 def write(tests, others):
     lines = []
     for test, (number, parts) in sorted(tests.items()):
-        lines += [f"{test} {'-' if number is None else number}", *(f"{test} {part}" for part in sorted(parts))]
+        lines += [f"{test} {number}", *(f"{test} {part}" for part in sorted(parts))]
     EXPECTED.write_text(HEAD + "".join(f"{line}\n" for line in [*sorted(others), *lines]))
+
+
+def number_of(record):
+    """Returns a record's number of assertions as text."""
+    return "-" if record["assertions"] is None else str(record["assertions"])
 
 
 def is_skipped(record):
@@ -61,15 +66,15 @@ def differences(records, others, whole):
         record = known[test]
         if record["ended"] != "skipped":
             yield from (f"{test} {part}: is in tests/expected.txt, and didn't run" for part in sorted(parts - set(record["parts"])))
-        if record["ended"] == "passed" and not is_skipped(record) and record["assertions"] != number:
-            yield f"{test}: made {record['assertions']} assertions, and in tests/expected.txt {number}"
+        if record["ended"] == "passed" and not is_skipped(record) and number not in ("?", number_of(record)):
+            yield f"{test}: made {number_of(record)} assertions, and in tests/expected.txt {number}"
     for record in records:
         if re.match(r"(?:setUp|tearDown)", record["test"]):
             continue
         number, parts = tests.get(record["test"], (None, None))
         if parts is None:
             yield f"{record['test']}: isn't in tests/expected.txt"
-        else:
+        elif number != "?":
             yield from (f"{record['test']} {part}: isn't in tests/expected.txt" for part in sorted(set(record["parts"]) - parts))
     if others is not None:
         yield from (f"{line}: is in tests/expected.txt, and wasn't tried" for line in sorted(expected_others - others))
@@ -84,12 +89,22 @@ def gone():
             yield f"{test}: is in tests/expected.txt, and its module is gone"
 
 
+def kept():
+    """Returns what the last runs recorded, by the names of tests."""
+    return {name: record for file in RECORDS.glob("*.json") for name, record in json.loads(file.read_text()).items()}
+
+
 def keep(records):
-    """Keeps the records of tests for `./test --expected`."""
+    """Keeps the records of tests for `./test --expected`, in a file for each module."""
     RECORDS.mkdir(parents=True, exist_ok=True)
+    modules = {}
     for record in records:
         if " " not in record["test"]:  # a test, and not what sets up a class
-            (RECORDS / f"{record['test']}.json").write_text(json.dumps(record))
+            modules.setdefault(record["test"].rsplit(".", 2)[0], {})[record["test"]] = record
+    for module, known in modules.items():
+        file = RECORDS / f"{module}.json"
+        before = json.loads(file.read_text()) if file.exists() else {}
+        file.write_text(json.dumps(before | known))
 
 
 def update(listed):
@@ -97,16 +112,14 @@ def update(listed):
     of definitions that are listed. Returns the tests of which neither a record nor a line is known."""
     tests, _ = read()
     exist = {name for tests in runner.names().values() for name in tests}
-    for file in RECORDS.glob("*.json"):
-        record = json.loads(file.read_text())
-        name, parts = record["test"], set(record["parts"])
-        if name not in exist or record["ended"] == "skipped":
-            continue
-        if is_skipped(record):
-            number, before = tests.get(name, (None, set()))
-            tests[name] = number, before | parts
+    for name, record in kept().items():
+        number, parts = tests.get(name, ("?", set()))
+        if record["ended"] == "skipped":
+            tests[name] = number, parts
+        elif is_skipped(record):
+            tests[name] = number, parts | set(record["parts"])
         else:
-            tests[name] = record["assertions"], parts
+            tests[name] = number_of(record), set(record["parts"])
     write({name: one for name, one in tests.items() if name in exist},
           {*listed, *(f"proof {crate}" for crate in all_crates())})
     return sorted(exist - set(tests))

@@ -174,6 +174,15 @@ class Expected(TestCase):
         left_out = record("tests.test_a.A.test_one", "skipped", 0), self.right[1]
         self.assertEqual(self.differences(left_out), [])
 
+    def test_a_test_that_was_always_left_out(self):
+        """Its numbers aren't known, so a machine that can run it may find any."""
+        expected.keep([record("tests.test_a.A.test_one", "skipped", 0)])
+        with mock.patch.object(runner, "names", return_value={"tests.test_a": ["tests.test_a.A.test_new"]}):
+            expected.keep([record("tests.test_a.A.test_new", "skipped", 0)])
+            expected.update([])
+        self.assertEqual(expected.read()[0], {"tests.test_a.A.test_new": ("?", set())})
+        self.assertEqual(self.differences([record("tests.test_a.A.test_new", assertions=9, parts=["[z]"])], expected.read()[1]), [])
+
     def test_an_update_writes_what_ran(self):
         changed = [record("tests.test_a.A.test_one", assertions=4, parts=["[y]"]), record("tests.test_a.A.test_new", assertions=None)]
         expected.keep(changed)
@@ -181,7 +190,7 @@ class Expected(TestCase):
         with mock.patch.object(runner, "names", return_value=exist):
             self.assertEqual(expected.update(["mutant rt_rib:two"]), [])
         tests, others = expected.read()
-        self.assertEqual(tests, {"tests.test_a.A.test_one": (4, {"[y]"}), "tests.test_a.A.test_new": (None, set())})
+        self.assertEqual(tests, {"tests.test_a.A.test_one": ("4", {"[y]"}), "tests.test_a.A.test_new": ("-", set())})
         self.assertIn("mutant rt_rib:two", others)
         self.assertNotIn("mutant rt_rib:one", others)
 
