@@ -53,8 +53,7 @@ def changed(table, changes):
 
 
 def write(path, table):
-    path.write_text("".join(f"add {dotted(base)}/{length} 100 192.0.2.{hop}\n"
-                            for (base, length), hop in table.items()))
+    path.write_text("".join(f"add {dotted(base)}/{length} 100 192.0.2.{hop}\n" for (base, length), hop in table.items()))
 
 
 # Looks up each boundary of both tables in py-radix; prints the seconds of loading and of look-ups, and how many answers

@@ -88,7 +88,7 @@ def other_rows(folders, lpm, pairs, asked):
 
 
 def compare(folder, programs, prefixes, rounds):
-    """Runs all in turn with this number of prefixes, and returns a row for each call, with their minimum times."""
+    """Runs all in turn with this number of prefixes, prints a row for each call, and returns their minimum times."""
     pairs, random = drawn(prefixes, ASKED)
     asked = {"random": random, "local": drawn(prefixes, ASKED, PLACES)[1]}
     folders = {kind: folder / kind for kind in KINDS}
@@ -109,20 +109,17 @@ def compare(folder, programs, prefixes, rounds):
     calls = [f"{call} {kind}" for kind in KINDS for call in ("look_up", "look_up_each")]
     calls += ["new", "renew_24", "renew_16", "renew_8", "reader alone", "reader beside", "memory"]
     times = {call: {who: round(least[who, call], 2) for who in WHO if (who, call) in least} for call in calls}
+    for call in calls:
+        cells = "".join(f"{times[call][who]:14.1f}" if who in times[call] else " " * 14 for who in WHO)
+        print(f"{prefixes:9} {call:20}{cells}", flush=True)
     return [{"prefixes": prefixes, "call": call} | times[call] for call in calls]
-
-
-def show(row):
-    cells = "".join(f"{row[who]:14.1f}" if who in row else " " * 14 for who in WHO)
-    print(f"{row['prefixes']:9} {row['call']:20}{cells}", flush=True)
 
 
 def built(folder):
     """The programs by name; without rte_lpm if it isn't installed."""
     subprocess.run(["gcc", "-O2", "-o", folder / "c", TOP / "bench/fib_peer.c"], check=True)
     rust = built_peer(folder, "fib_peer.rs")
-    return {"Rattle": built_benches("fib", "2000"), "C": folder / "c", "Rust": rust,
-            "rte_lpm": built_lpm(folder)}
+    return {"Rattle": built_benches("fib", "2000"), "C": folder / "c", "Rust": rust, "rte_lpm": built_lpm(folder)}
 
 
 def main():
@@ -135,10 +132,7 @@ def main():
         programs = built(folder)
         print(" " * 30 + "".join(f"{who:>14}" for who in WHO))
         for prefixes in words.prefixes:
-            some = compare(folder, programs, prefixes, words.rounds)
-            for row in some:
-                show(row)
-            rows += some
+            rows += compare(folder, programs, prefixes, words.rounds)
     results.keep("fib", words.rounds, rows)
 
 

@@ -21,9 +21,12 @@ def sum_of(path):
     return hashlib.sha256(pathlib.Path(path).read_bytes()).hexdigest()
 
 
+def printed(*words):
+    return subprocess.run(words, stdout=subprocess.PIPE, text=True, check=True).stdout.strip()
+
+
 def git(*words):
-    return subprocess.run(["git", "-c", f"safe.directory={TOP}", "-C", TOP, *words], stdout=subprocess.PIPE, text=True,
-                          check=True).stdout.strip()
+    return printed("git", "-c", f"safe.directory={TOP}", "-C", TOP, *words)
 
 
 def verdict(crate):
@@ -37,17 +40,13 @@ def verdict(crate):
     return {"sources": sources_sum(crate), "verdict": found[0], "axioms": axioms}
 
 
-def toolchain():
-    return subprocess.run(["rt", "version"], stdout=subprocess.PIPE, text=True, check=True).stdout.strip()
-
-
 def record(program, archive, library, gate):
     """Returns the evidence as text. `library` is the sum of the shared library, and `gate` what out/gate.json has."""
-    comment = subprocess.run(["readelf", "-p", ".comment", program], stdout=subprocess.PIPE, text=True, check=True).stdout
+    comment = printed("readelf", "-p", ".comment", program)
     return json.dumps({
         "format": 1, "version": VERSION,
         "commit": git("rev-parse", "HEAD"), "tree": git("rev-parse", "HEAD^{tree}"), "committed": git("log", "-1", "--format=%cI"),
-        "toolchain": toolchain(), "logic": LOGIC, "logic in the program": re.findall(r"logic=(\w+)", comment),
+        "toolchain": printed("rt", "version"), "logic": LOGIC, "logic in the program": re.findall(r"logic=(\w+)", comment),
         "sha256": {"program": sum_of(program), "archive": sum_of(archive), "libyarib.so.0": library},
         "crates": {crate: verdict(crate) for crate in sorted(below(ROOTS))},
         "unproved files": {name: sum_of(TOP / "bindings/c" / name) for name in LAYER},

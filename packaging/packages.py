@@ -13,6 +13,7 @@ import tempfile
 
 from dev.crates import TOP
 from dev.versions import VERSION
+from packaging.evidence import git
 from packaging.file_trees import Tree, deb, zipped
 from packaging.manuals import manual
 
@@ -155,8 +156,7 @@ class Release:
     def python_package(self):
         tree = Tree()
         tree.include(python_files(), "usr/lib/python3/dist-packages/")
-        tree.copy(TOP / "bindings/python/example.py", "usr/share/doc/python3-yarib/examples/example.py")
-        tree.files["usr/share/doc/python3-yarib/examples/example.py"] = (tree.files["usr/share/doc/python3-yarib/examples/example.py"][0], 0o644)
+        tree.add("usr/share/doc/python3-yarib/examples/example.py", (TOP / "bindings/python/example.py").read_bytes())
         return Package("python3-yarib", "python", f"libyarib0 (= {VERSION}), python3:any (>= 3.9)", (
             "IPv4 routing tables with proved answers - Python\n"
             " Calls libyarib through ctypes."), tree, architecture="all", more={"prerm": NO_BYTECODE})
@@ -220,9 +220,7 @@ def stage(folder, program, archive):
 
 def tracked(folder):
     """Returns the paths of the files of a directory that git knows."""
-    listed = subprocess.run(["git", "-c", f"safe.directory={TOP}", "-C", TOP, "ls-files", "-z", folder],
-                            stdout=subprocess.PIPE, text=True, check=True)
-    return listed.stdout.split("\0")[:-1]
+    return git("ls-files", "-z", folder).split("\0")[:-1]
 
 
 def imported(script):
