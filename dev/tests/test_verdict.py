@@ -48,90 +48,46 @@ class VerdictTest(TestCase):
         self.assert_ended(self.verdict("end", self.notes, "full", "0", **more), None)
         return json.loads((self.top / "out/gate.json").read_text())
 
-    def assert_judged(self, differing=(), unknown=(), is_head=False, **more):
-        """Fails unless a verdict names these files, and the tree of HEAD if `is_head` is true."""
+    def assert_judged(self, differing, unknown, **more):
+        """Fails unless a verdict names these files, and the tree of HEAD if there are none."""
         found = self.judged(**more)
-        self.assertEqual((found["differing"], found["unknown"]), (list(differing), list(unknown)))
-        self.assertEqual(found["tree"] == self.git("rev-parse", "HEAD^{tree}"), is_head)
+        self.assertEqual((found["differing"], found["unknown"]), (differing, unknown))
+        self.assertEqual(found["tree"] == self.git("rev-parse", "HEAD^{tree}"), not differing and not unknown)
         self.assertEqual(found["commit"], self.git("rev-parse", "HEAD"))
+
+
+# What the shell does with the files before they are judged, the files that differ then, and those that git doesn't know.
+EXTRA = "echo // >extra.rt; echo extra.rt >"
+CHANGES = {
+    "clean": ("true", [], []),
+    "change": ("echo another >changed.rt", ["changed.rt"], []),
+    "change_of_the_same_size_and_time": (
+        "touch -r changed.rt ../before; echo '/*' >changed.rt; touch -r ../before changed.rt", ["changed.rt"], []),
+    "mode": ("chmod 755 changed.rt; git config core.fileMode false", ["changed.rt"], []),
+    "staged_change": ("echo another >changed.rt; echo // | tee staged.rt >staged.pyc; git add --force changed.rt staged.rt staged.pyc",
+                      ["changed.rt", "staged.pyc", "staged.rt"], []),
+    "removed_file": ("rm changed.rt", ["changed.rt"], []),
+    "file_of_another_name": ("git mv changed.rt moved.rt; echo unknown >'a näme, and a word.txt'",
+                             ["changed.rt", "moved.rt"], ["a näme, and a word.txt"]),
+    "file_that_git_does_not_know": ("mkdir docs; echo '# New' >docs/new.md", [], ["docs/new.md"]),
+    "ignored_file": ("mkdir out; echo // | tee out/built >one.pyc", [], []),
+    "link_in_place_of_a_directory": ("mv crates/small/src ..; ln -s ../../../src crates/small/src",
+                                     ["crates/small/src/lib.rt"], ["crates/small/src"]),
+    "assumed_unchanged": ("git update-index --assume-unchanged changed.rt; echo another >changed.rt", ["changed.rt"], []),
+    "skipped_in_the_worktree": ("git update-index --skip-worktree changed.rt; echo another >changed.rt", ["changed.rt"], []),
+    "ignored_by_the_user": (f"{EXTRA}../ignored; git config --global core.excludesFile \"$PWD/../ignored\"", [], ["extra.rt"]),
+    "ignored_by_a_setting": (f"{EXTRA}../ignored; git config core.excludesFile \"$PWD/../ignored\"", [], ["extra.rt"]),
+    "ignored_by_the_repository_of_git": (f"mkdir -p .git/info; {EXTRA}.git/info/exclude", [], ["extra.rt"]),
+    "ignored_by_a_file_beside_it": ("mkdir docs; echo '*' >docs/.gitignore; echo // >docs/extra.rt",
+                                    [], ["docs/.gitignore", "docs/extra.rt"]),
+}
 
 
 # Catches a verdict that names a tree which wasn't judged.
 class Tree(VerdictTest):
-    def test_clean(self):
-        self.assert_judged(is_head=True)
-
-    def test_change(self):
-        self.write({"top/changed.rt": "// another\n"})
-        self.assert_judged(["changed.rt"])
-
-    def test_change_of_the_same_size_and_time(self):
-        before = (self.top / "changed.rt").stat()
-        self.write({"top/changed.rt": "/*\n"})
-        os.utime(self.top / "changed.rt", ns=(before.st_atime_ns, before.st_mtime_ns))
-        self.assert_judged(["changed.rt"])
-
-    def test_mode(self):
-        (self.top / "changed.rt").chmod(0o755)
-        self.git("config", "core.fileMode", "false")
-        self.assert_judged(["changed.rt"])
-
-    def test_staged_change(self):
-        self.write({"top/changed.rt": "// another\n", "top/staged.rt": "//\n", "top/staged.pyc": "//\n"})
-        self.git("add", "--force", "changed.rt", "staged.rt", "staged.pyc")
-        self.assert_judged(["changed.rt", "staged.pyc", "staged.rt"])
-
-    def test_removed_file(self):
-        (self.top / "changed.rt").unlink()
-        self.assert_judged(["changed.rt"])
-
-    def test_file_of_another_name(self):
-        self.git("mv", "changed.rt", "moved.rt")
-        self.write({"top/a näme, and a word.txt": "unknown\n"})
-        self.assert_judged(["changed.rt", "moved.rt"], ["a näme, and a word.txt"])
-
-    def test_file_that_git_does_not_know(self):
-        self.write({"top/docs/new.md": "# New\n"})
-        self.assert_judged([], ["docs/new.md"])
-
-    def test_ignored_file(self):
-        self.write({"top/out/built": "//\n", "top/one.pyc": "//\n"})
-        self.assert_judged(is_head=True)
-
-    def test_link_in_place_of_a_directory(self):
-        (self.top / "crates/small/src").rename(self.folder / "src")
-        (self.top / "crates/small/src").symlink_to(self.folder / "src")
-        self.assert_judged(["crates/small/src/lib.rt"], ["crates/small/src"])
-
-    def test_flags_of_the_index(self):
-        for flag in ("assume-unchanged", "skip-worktree"):
-            with self.subTest(flag):
-                self.git("update-index", f"--{flag}", "changed.rt")
-                self.write({"top/changed.rt": f"// {flag}\n"})
-                self.assert_judged(["changed.rt"])
-                self.git("update-index", f"--no-{flag}", "changed.rt")
-
-    def test_files_that_the_user_ignores(self):
-        self.write({"home/ignored": "extra.rt\n", "top/extra.rt": "//\n"})
-        with self.subTest("core.excludesFile of the user"):
-            subprocess.run(["git", "config", "--global", "core.excludesFile", self.home / "ignored"], env=self.environment, check=True)
-            self.assert_judged([], ["extra.rt"])
-            (self.home / ".gitconfig").unlink()
-        with self.subTest("core.excludesFile of the repository"):
-            self.git("config", "core.excludesFile", str(self.home / "ignored"))
-            self.assert_judged([], ["extra.rt"])
-            self.git("config", "--unset", "core.excludesFile")
-        with self.subTest(".git/info/exclude"):
-            self.write({"top/.git/info/exclude": "extra.rt\n"})
-            self.assert_judged([], ["extra.rt"])
-            (self.top / ".git/info/exclude").unlink()
-        with self.subTest("a .gitignore beside it"):
-            self.write({"top/docs/.gitignore": "*\n", "top/docs/extra.rt": "//\n"})
-            self.assert_judged([], ["docs/.gitignore", "docs/extra.rt", "extra.rt"])
-
     def test_variables_of_git(self):
         self.write({"top/changed.rt": "// another\n"})
-        self.assert_judged(["changed.rt"], GIT_DIR="/nowhere", GIT_INDEX_FILE="/nowhere", GIT_WORK_TREE="/nowhere")
+        self.assert_judged(["changed.rt"], [], GIT_DIR="/nowhere", GIT_INDEX_FILE="/nowhere", GIT_WORK_TREE="/nowhere")
 
     @needs_root
     def test_checkout_of_another_user(self):
@@ -149,16 +105,13 @@ class Tree(VerdictTest):
         self.assertEqual(files(), before)
         self.assertEqual(self.git("status", "--porcelain"), "M changed.rt\n?? new.rt")
 
-    def test_without_git(self):
+    def test_outside_a_repository_of_git(self):
         shutil.rmtree(self.top / ".git")
-        found = self.judged()
-        self.assertEqual((found["commit"], found["tree"]), (None, None))
-
-    def test_below_another_repository(self):
-        shutil.rmtree(self.top / ".git")
-        subprocess.run(["git", "init", "--quiet", self.folder], check=True, env=self.environment)
-        found = self.judged()
-        self.assertEqual((found["commit"], found["tree"]), (None, None))
+        for place in ("without git", "below another repository"):
+            with self.subTest(place):
+                found = self.judged()
+                self.assertEqual((found["commit"], found["tree"]), (None, None))
+                subprocess.run(["git", "init", "--quiet", self.folder], check=True, env=self.environment)
 
     def test_without_a_commit(self):
         shutil.rmtree(self.top / ".git")
@@ -167,6 +120,17 @@ class Tree(VerdictTest):
         self.assertIsNone(found["commit"])
         self.assertIsNotNone(found["tree"])
         self.assertIn("changed.rt", found["unknown"])
+
+
+def change(command, differing, unknown):
+    def test(self):
+        self.assert_ended(self.call("sh", "-ec", command, env=self.environment, cwd=self.top))
+        self.assert_judged(differing, unknown)
+    return test
+
+
+for title, values in CHANGES.items():
+    setattr(Tree, f"test_{title}", change(*values))
 
 
 class Steps(VerdictTest):
