@@ -1,18 +1,10 @@
 """A judge of runs: whether some order of the feeds' batches explains the output of a run of their texts.
 
-It reads each text line by line, and pairs each command with the answer that the output has for that line. If the output
-has another line, or lacks one, nothing explains it. Each feed's commands are then split into batches of `batch`
-commands; the last one may be shorter. A state of the search consists of the number of commands that each feed has
-left, and the routes in the table. From a state the search continues with the next batch of each feed: it answers the
-batch's commands from the table, one after another and with nothing between them. It abandons this path at the first
-answer that differs from the printed one. The output is explained if some path leads to the end of all feeds, and the
-text after the reports is then the table of the final state.
-
-No state is searched twice. A command changes only the routes of its own feed, so all paths that leave each feed the
-same commands have led to the same table.
-
-The judge is for texts whose lines are valid or have the fault E1, and for runs with ample memory: it doesn't accept a
-refusal as an answer.
+Each command is paired with the answer that the output has for its line. A state of the search is the number of commands
+that each feed has left, and the table. From a state the search continues with the next batch of each feed, whose
+commands are answered from the table, and abandons a path at the first answer that differs from the printed one. No
+state is searched twice: a command changes only the routes of its own feed, so all paths that leave each feed the same
+commands have led to the same table. Lines have to be valid or have the fault E1, and a refusal is no answer.
 """
 from dev.models.table_model import Table, command_of, table_text
 

@@ -2,10 +2,8 @@
 could be done twice, or on one thread, without a word in the output.
 
 A list that grows doubles its capacity. So twice the number of commands of a kind that doesn't allocate may cost only a
-few more requests, for the text, the reports and the journal; another one for each command would be noticed. A run makes
-no request between two writes, and writes a full output buffer at once. At its end, after all routes are withdrawn or
-purged, a run holds as much as a run with the same number of `dump`s. A table that has routes is left to the system. The
-launchers' settings change no request, only the place of the memory; so everything is run once."""
+few more requests; another one for each command would be noticed. The launchers' settings change no request, only the
+place of the memory; so everything is run once."""
 import os
 import struct
 import tempfile

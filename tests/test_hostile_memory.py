@@ -1,10 +1,9 @@
 """Runs the program with little memory, and with refused requests for memory.
 
-The program is run under rising limits of its address space, with the C library's default memory settings and with the
-launchers'. Each run must end in one of three ways: as with ample memory; with status 5 and nothing on standard output;
-or with status 5 and the model's output without the commands reported as refused. It must never end by a signal. Limits
-under which it can't be loaded at all are left out. Then each request of a look-up and of a list is refused in turn, as
-tests/test_refused_growth.py does it for all kinds of runs, and requests of a forwarding table."""
+Under rising limits of its address space, each run must end in one of three ways: as with ample memory; with status 5
+and nothing on standard output; or with status 5 and the model's output without the commands reported as refused. Limits
+under which it can't be loaded at all are left out. Then requests of look-ups, a list and a forwarding table are
+refused."""
 import re
 import resource
 import subprocess

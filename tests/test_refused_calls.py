@@ -2,10 +2,9 @@
 
 The calls are those of bench/benches/src/growth.rt.in: the lock, the shared table, and feeds on gates. After a refusal
 the lock's value is back, the outcomes and the table are as before, and the commands that a gate got are a beginning of
-the feed's. Each is called with its first request refused, then with its second, and so on until a call meets no
-refusal, and once more with all requests after the refused one refused as well. Each must have met its kinds of refusal.
-The program is built without proofs, and without the sanitizer of other unproved programs, which has its own memory;
-YARIB_BENCHES can name a proved one. tests/test_refused_growth.py refuses requests of `yarib` itself."""
+the feed's. Each call must have met its kinds of refusal. The program is built without proofs, and without the sanitizer
+of other unproved programs, which has its own memory; YARIB_BENCHES can name a proved one. tests/test_refused_growth.py
+refuses requests of `yarib` itself."""
 import collections
 import functools
 import os

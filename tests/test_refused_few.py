@@ -1,9 +1,8 @@
 """Refuses memory requests of the program, a few of each call, and compares the output with a plain model.
 
 A run is called with its 1st, 2nd, 3rd, 4th, 6th, 9th, 12th, .. request refused, a replay with each, until no request of
-that number comes. Each is refused first by itself, then with all later ones. A run requests memory in TreeLock::new, in
-SharedRib (new, and apply or with batches apply_batch), in run_feed and in run_texts. tests/test_refused_calls.py
-refuses each request of the libraries' calls, and tests/test_refused_growth.py each of more runs.
+that number comes. tests/test_refused_calls.py refuses each request of the libraries' calls, and
+tests/test_refused_growth.py each of more runs.
 
 A comparison of two large tables executes its sides on two threads, and a query of two large files each on its own.
 Longer files are read on several threads. All are called with each request refused, by itself and with all later ones,

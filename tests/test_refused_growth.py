@@ -1,12 +1,10 @@
 """Refuses each memory request of `yarib` in turn, and compares the output with a plain model. It runs for minutes, so
 it is left out unless YARIB_LARGE is set.
 
-Each call is made with its first request refused, then with its second, and so on until a call meets no refusal. It is
-made once more with all requests after the refused one refused as well. After each call the answers and the output are
-compared whole with a model that leaves out what was refused. No call may end by a signal. Each must have met its kinds
-of refusal. The requests are refused before the C library sees them. So the launchers' settings change nothing here, and
-each call is made once. ./test refuses a few requests of some runs (tests/test_refused_few.py), and each of the
-libraries' calls (tests/test_refused_calls.py)."""
+The whole output is compared with a model that leaves out what was refused, and each call must have met its kinds of
+refusal. The requests are refused before the C library sees them, so the launchers' settings change nothing here. ./test
+refuses a few requests of some runs (tests/test_refused_few.py), and each of the libraries' calls
+(tests/test_refused_calls.py)."""
 import os
 import unittest
 

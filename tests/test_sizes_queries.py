@@ -1,8 +1,8 @@
-"""Look-ups and lists of sizes at which a needless refusal would show: the whole output of each is compared with a plain
-model.
+"""Look-ups, lists and some runs of sizes at which a needless refusal would show: the whole output of each is compared
+with a plain model.
 
-They have up to 1,300,000 routes, of one feed or of several, up to 2,500,000 addresses, and just fewer and just more of
-both than a forwarding table needs to answer. No option is given here; tests/test_sizes_options.py gives most."""
+They have up to 1,300,000 routes, of one feed or of several, up to 2,500,000 addresses, and just fewer and just more
+of both than a forwarding table needs to answer. No option is given here; tests/test_sizes_options.py gives most."""
 import os
 import subprocess
 
@@ -37,6 +37,14 @@ class ThreeFeeds(LaunchedCase):
     @staticmethod
     def row(base, feed):
         return row(f"{base}/24", feed, 9 - feed, f"192.0.2.{feed}")
+
+    # Catches F3 above 200,000 routes, a refusal of a limit over 65,536, or a journal of 200,000 entries or more that
+    # never grows: `300,000 routes of three feeds`.
+    def test_a_run(self):
+        report = "".join(f"{feed}:{line} added\n" for feed in range(1, 4) for line in range(1, 100_001))
+        rows = "".join(self.row(base, feed) for base in self.sorted_bases for feed in (3, 2, 1))
+        self.assert_prints_twice("300,000 routes of three feeds", ["run", "--batch", "256", *self.WORDS],
+                                 report + "table 300000\n" + rows)
 
     # Catches F3 of `table` above 65,536 routes: `the table of 300,000 routes`.
     def test_tables(self):
@@ -123,9 +131,13 @@ class RoutesInAll(LaunchedCase):
     # Catches F3 for more than 1,000,000 routes in all: `the table of 1000001 routes in all`.
     def test_tables(self):
         rests = [row("", feed) for feed in range(1, 17)]
-        listed = [prefix + rest for at, prefix in enumerate(self.prefixes)
-                  for rest in rests[: 16 if at < self.left else 15]]
-        self.assert_prints("the table of 1000001 routes in all", ["table", *self.names], "".join(listed))
+        listed = "".join(prefix + rest for at, prefix in enumerate(self.prefixes)
+                         for rest in rests[: 16 if at < self.left else 15])
+        self.assert_prints("the table of 1000001 routes in all", ["table", *self.names], listed)
+        report = "".join(f"{feed}:{line} added\n" for feed in range(1, 17)
+                         for line in range(1, 65_537 if feed < 16 else self.left + 1))
+        self.assert_prints_twice("a run of 1000001 routes in all", ["run", "--batch", "256", *self.names],
+                                 report + "table 1000001\n" + listed)
         best = "".join(row(prefix, 1) for prefix in self.prefixes)
         for count, names in ((16, self.names), (64, ["whole.feed"] * 64)):
             self.assert_prints(f"the best routes of {count} feeds", ["table", "--best", *names], best)

@@ -124,33 +124,6 @@ class Limits(LaunchedCase):
 
 
 class RoutesInAll(LaunchedCase):
-    # Catches F3 above 200,000 routes, a refusal of a limit over 65,536, or a journal of 200,000 entries or more that
-    # never grows: `300,000 routes of three feeds`.
-    def test_three_feeds(self):
-        """300,000 routes of three feeds, the same prefixes for each."""
-        bases = [dotted(0x0100_0000 + (at * 40_503 % 100_000 << 8)) for at in range(100_000)]
-        names = [f"{feed}.feed" for feed in range(1, 4)]
-        self.write({name: "".join(f"add {base}/24 {9 - feed} 192.0.2.{feed}\n" for base in bases)
-                    for feed, name in enumerate(names, 1)})
-        report = "".join(f"{feed}:{line} added\n" for feed in range(1, 4) for line in range(1, 100_001))
-        rows = "".join(row(f"{dotted(0x0100_0000 + (at << 8))}/24", feed, 9 - feed, f"192.0.2.{feed}")
-                       for at in range(100_000) for feed in (3, 2, 1))
-        self.assert_prints_twice("300,000 routes of three feeds",
-                                 ["run", "--limit", "100000", "--batch", "256", *names],
-                                 report + "table 300000\n" + rows)
-
-    def test_over_a_million(self):
-        """More routes than one feed may have, of 16 feeds."""
-        left = MOST + 1 - 15 * 65_536  # what the sixteenth feed has
-        self.write({"whole.feed": WHOLE_FEED, "rest.feed": "".join(WHOLE_FEED.splitlines(keepends=True)[:left])})
-        rests = [row("", feed) for feed in range(1, 17)]
-        listed = "".join(prefix + rest for at, prefix in enumerate(WHOLE) for rest in rests[: 16 if at < left else 15])
-        report = "".join(f"{feed}:{line} added\n" for feed in range(1, 17)
-                         for line in range(1, 65_537 if feed < 16 else left + 1))
-        self.assert_prints_twice("a run of 1000001 routes in all",
-                                 ["run", "--batch", "256", *["whole.feed"] * 15, "rest.feed"],
-                                 report + "table 1000001\n" + listed)
-
     # Catches F3 of a run of over 3,000,000 routes: `test_three_million`.
     def test_three_million(self):
         """A run with more routes than three feeds may have: its output, as a digest."""
