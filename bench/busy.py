@@ -22,18 +22,6 @@ from dev.models.inputs import changing_table, deal, write
 
 FILES = (2, 4, 16, 64)
 BATCHES = (1, 256)
-BUSY = "while True: pass"
-
-
-def start_others(count):
-    """This number of processes that never sleep."""
-    return [subprocess.Popen([sys.executable, "-c", BUSY]) for _ in range(count)]
-
-
-def end_others(others):
-    for other in others:
-        other.kill()
-        other.wait()
 
 
 def spread(times):
@@ -41,21 +29,14 @@ def spread(times):
     return [round(pick(times) * 1e3, 1) for pick in (statistics.median, min, max)]
 
 
-def compare(cases, batch, rounds):
-    """Seconds of wall-clock and processor time of each case and round: several files, one file, the plain program."""
-    yarib, peer, several, one = cases
-    words = [yarib, "run", "--batch", str(batch)]
-    runs = [[*words, *several], [*words, *one], [peer, *one]]
-    rounds = [[measure(call, False)[:2] for call in runs] for _ in range(rounds)]
-    return [[[made[case][kind] for made in rounds] for case in range(3)] for kind in range(2)]
-
-
 def row(folder, programs, files, batch, others, rounds, lines):
-    """Measures one case, prints its row and returns its measurements."""
+    """Measures several files, one file and the plain program in turn, prints the row and returns its measurements."""
     several, one = (sorted((folder / str(count)).iterdir()) for count in (files, 1))
-    clock, processors = compare((*programs, several, one), batch, rounds)
-    ours, alone, plain = (spread(times) for times in clock)
-    used = [spread(times)[0] for times in processors]
+    words = [programs[0], "run", "--batch", str(batch)]
+    calls = [[*words, *several], [*words, *one], [programs[1], *one]]
+    runs = [[measure(call, False) for call in calls] for _ in range(rounds)]
+    ours, alone, plain = (spread([run[case][0] for run in runs]) for case in range(3))
+    used = [spread([run[case][1] for run in runs])[0] for case in range(3)]
     print(
         f"{others:>6} {files:>5} {batch:>5} {ours[0]:>9.0f} {ours[1]:>7.0f} {ours[2]:>7.0f} {alone[0]:>8.0f} {plain[0]:>8.0f}"
         f" {ours[0] / alone[0]:>7.2f} {ours[0] / plain[0]:>8.2f} {used[0] / used[1]:>10.2f}",
@@ -67,11 +48,13 @@ def row(folder, programs, files, batch, others, rounds, lines):
 
 def rows(folder, programs, others, rounds, lines):
     """Each case while this number of busy processes runs."""
-    started = start_others(others)
+    started = [subprocess.Popen([sys.executable, "-c", "while True: pass"]) for _ in range(others)]
     try:
         return [row(folder, programs, files, batch, others, rounds, lines) for files in FILES for batch in BATCHES]
     finally:
-        end_others(started)
+        for other in started:
+            other.kill()
+            other.wait()
 
 
 def main():

@@ -21,8 +21,7 @@ from dev.models.inputs import one_prefix, real_table
 PARTS = [
     ("cutting at the ends of lines and at spaces", r"^rt_feed::lines|^memchr"),
     ("reading prefixes, numbers and addresses", r"^rt_feed::(parse|versions)|^rt_cidr::(address::read|prefix)"),
-    ("gathering and asking, reading ahead, the report",
-     r"^rt_feed::(feed_run|running|report|gates|feeds)|^std::thread"),
+    ("gathering and asking, reading ahead, the report", r"^rt_feed::(feed_run|running|report|gates|feeds)|^std::thread"),
     ("the table and the lock", r"^(rt_shared|rt_rib|rt_trie|ya_\w+|atomic_table)::"),
     ("rendering", r"^rt_feed::print|^rt_print::|^rt_cidr::|^rt_run::|^rt_app::|^terminal_line::"),
     ("memory: granted, copied, filled", r"malloc|_alloc|free|realloc|^__?mem"),
@@ -38,8 +37,7 @@ def counted(program, lines, folder):
     words = [program, "run", "--limit", "1000000", "--batch", "256", text]
     callgrind = ["valgrind", "--tool=callgrind", f"--callgrind-out-file={out}"]
     subprocess.run([*callgrind, *words], check=True, capture_output=True)
-    listed = subprocess.run(["callgrind_annotate", "--threshold=100", out], check=True, capture_output=True,
-                            text=True).stdout
+    listed = subprocess.run(["callgrind_annotate", "--threshold=100", out], check=True, capture_output=True, text=True).stdout
     sums = dict.fromkeys((part for part, _ in PARTS), 0)
     for count, function in ROW.findall(listed):
         part = next(part for part, pattern in PARTS if re.search(pattern, function))
@@ -51,10 +49,7 @@ def main():
     results.asked = results.reader(__doc__).parse_args()
     yarib = built()
     with tempfile.TemporaryDirectory() as made:
-        one, real = (
-            counted(yarib, lines, pathlib.Path(made))
-            for lines in (one_prefix(50_000), real_table(70_000, False))
-        )
+        one, real = (counted(yarib, lines, pathlib.Path(made)) for lines in (one_prefix(50_000), real_table(70_000, False)))
     rows = [{"part": part, "one_prefix": one[part], "real_lengths": real[part]} for part, _ in PARTS]
     rows.append({"part": "all", "one_prefix": sum(one.values()), "real_lengths": sum(real.values())})
     for row in rows:

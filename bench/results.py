@@ -23,6 +23,8 @@ FOLDER = TOP / "bench" / "figures"
 # How tables and figures name the memory settings of a measurement. None is for counts, and if only one thread
 # allocates.
 MEMORY = {"launcher": "; launcher's memory", "default": "; default memory", None: ""}
+# The columns of /proc/stat of time that wasn't idle, and of time that the machine's host gave to others.
+WORKING, STOLEN = (1, 2, 3, 6, 7, 8), (8,)
 # The arguments, and when the measurement began: the machine's clock and the time that its host had withheld from it.
 asked, began = argparse.Namespace(store=False, default_memory=False), None
 
@@ -49,48 +51,30 @@ def begun(words):
     asked = words
     if asked.store and (others := working_processors()) > 0.5:
         sys.exit(f"{sys.argv[0]}: {others:.1f} processors are busy with other work; try again on a quiet machine")
-    for name, value in launched().items():
+    for name in launched():
         os.environ.pop(name, None)
-        if memory() == "launcher":
-            os.environ[name] = value
-    settings = "the launcher's settings" if memory() == "launcher" else "the C library's default"
-    print(f"memory: {settings}", flush=True)
-    began = time.monotonic(), stolen_seconds()
+    os.environ |= environment("run")
+    print("memory: the C library's default" if asked.default_memory else "memory: the launcher's settings", flush=True)
+    began = time.monotonic(), seconds(STOLEN)
     return asked
 
 
 def environment(subcommand):
     """Returns the environment of a program that is started with this subcommand, with the memory that is measured."""
-    return os.environ | (launched(subcommand) if memory() == "launcher" else {})
-
-
-def memory():
-    """Returns the memory settings that are measured: the launcher's, or the default of the C library."""
-    return "default" if asked.default_memory else "launcher"
+    return os.environ | ({} if asked.default_memory else launched(subcommand))
 
 
 def working_processors():
     """Returns the number of processors that the machine's work uses, by the kernel's counts over a second."""
-    before = working_seconds()
+    before = seconds(WORKING)
     time.sleep(1)
-    return working_seconds() - before
+    return seconds(WORKING) - before
 
 
-def working_seconds():
-    """Returns the processor time since the start of the machine that was not idle, in seconds."""
-    user, nice, system, _idle, _waiting, *rest = pathlib.Path("/proc/stat").read_text().split("\n")[0].split()[1:9]
-    return sum(int(part) for part in (user, nice, system, *rest)) / os.sysconf("SC_CLK_TCK")
-
-
-def stolen_seconds():
-    """Returns the processor time since the start of the machine that its host gave to others, in seconds."""
-    return int(pathlib.Path("/proc/stat").read_text().split()[8]) / os.sysconf("SC_CLK_TCK")
-
-
-def stolen():
-    """Returns the average number of processors that the host withheld during the measurement."""
-    clock, before = began
-    return round((stolen_seconds() - before) / (time.monotonic() - clock), 2)
+def seconds(columns):
+    """Returns the processor time since the start of the machine of these columns of the kernel's counts, in seconds."""
+    counts = pathlib.Path("/proc/stat").read_text().split()
+    return sum(int(counts[column]) for column in columns) / os.sysconf("SC_CLK_TCK")
 
 
 def machine():
@@ -111,7 +95,9 @@ def keep(name, rounds, rows):
     head = {"machine": machine(), "made": datetime.date.today().isoformat(), "rounds": rounds}
     # of counts it doesn't matter
     if began is not None:
-        head |= {"stolen": stolen(), "memory": memory()}
+        clock, before = began
+        stolen = round((seconds(STOLEN) - before) / (time.monotonic() - clock), 2)
+        head |= {"stolen": stolen, "memory": "default" if asked.default_memory else "launcher"}
     lines = ",\n    ".join(json.dumps(row) for row in rows)
     text = json.dumps(head)[:-1] + f', "rows": [\n    {lines}\n]}}\n'
     json.loads(text)

@@ -17,8 +17,8 @@ import tempfile
 sys.path[0] = str(pathlib.Path(__file__).resolve().parents[1])
 from bench import results
 from bench.programs import built, built_peer
-from bench.timing import measure, measured, shown
-from dev.models.inputs import add, count_lines, real_prefixes, write
+from bench.timing import compare, written
+from dev.models.inputs import add, real_prefixes
 from dev.models.table_model import dotted
 
 FILES = (1, 4, 16, 64)
@@ -44,38 +44,19 @@ def feeds(count, prefixes):
     return (feed(number, count, prefixes) for number in range(1, count + 1))
 
 
-def compare(paths, processors, batch, programs, rounds):
-    """Runs both programs on the files in turn, only on these processors, prints a row and returns its measurements."""
-    yarib, peer = programs
-    every = os.sched_getaffinity(0)
-    os.sched_setaffinity(0, processors)
-    runs = []
-    for _ in range(rounds):
-        ours = measure([yarib, "run", "--limit", "1000000", "--batch", str(batch), *paths], True)
-        runs.append((ours, measure([peer, *paths], True)))
-    os.sched_setaffinity(0, every)
-    if runs[0][0][3] != runs[0][1][3]:
-        sys.exit(f"{len(paths)} files: the outputs differ")
-    measures = measured(runs)
-    print(f"{len(paths):2} files on {len(processors):2} processors, batch {batch:3}{shown(measures)}", flush=True)
-    return measures
-
-
-def compare_files(folder, count, batches, on_all, programs, rounds):
+def compare_files(count, batches, on_all, programs, rounds):
     """A row for each number of files, of processors, and batch size: these batch sizes, and all of them on all
     processors."""
-    every = sorted(os.sched_getaffinity(0))
-    rows = []
+    every, rows = sorted(os.sched_getaffinity(0)), []
     for files in FILES:
-        (folder / str(files)).mkdir()
-        paths = write(folder / str(files), lambda: feeds(files, real_prefixes(count, random.Random(1))))
-        lines = count_lines(paths)
-        for some in (1, 2, len(every)):
-            for batch in on_all if some == len(every) else batches:
-                about = {"files": files, "lines": lines, "on": some, "batch": batch}
-                rows.append({**about, **compare(paths, every[:some], batch, programs, rounds)})
-        for path in paths:
-            path.unlink()
+        with written(lambda: feeds(files, real_prefixes(count, random.Random(1)))) as (paths, lines):
+            for some in (1, 2, len(every)):
+                for batch in on_all if some == len(every) else batches:
+                    os.sched_setaffinity(0, every[:some])
+                    title = f"{len(paths):2} files on {some:2} processors,"
+                    about = {"files": files, "lines": lines, "on": some, "batch": batch}
+                    rows.append({**about, **compare(title, paths, batch, programs, rounds, True)})
+                    os.sched_setaffinity(0, every)
     return rows
 
 
@@ -83,15 +64,12 @@ def main():
     reader = results.reader(__doc__, rounds=3, prefixes=100_000)
     reader.add_argument("--batches", action="store_true")
     words = results.begin(reader)
-    rounds, yarib = words.rounds, built()
-    with tempfile.TemporaryDirectory() as made:
-        folder = pathlib.Path(made)
-        programs = yarib, built_peer(folder, "peer.rs")
-        if words.batches:
-            results.keep("batches", rounds, compare_files(folder, 20_000, (1, 16, 256), (1, 16, 256), programs, rounds))
-        else:
-            results.keep("route_server", rounds,
-                         compare_files(folder, words.prefixes, (256,), (1, 256), programs, rounds))
+    name, count, batches, on_all = "route_server", words.prefixes, (256,), (1, 256)
+    if words.batches:
+        name, count, batches, on_all = "batches", 20_000, (1, 16, 256), (1, 16, 256)
+    with tempfile.TemporaryDirectory() as folder:
+        programs = built(), built_peer(pathlib.Path(folder), "peer.rs")
+        results.keep(name, words.rounds, compare_files(count, batches, on_all, programs, words.rounds))
 
 
 if __name__ == "__main__":

@@ -18,6 +18,7 @@ from dev.crates import TOP
 PAGE = TOP / "docs/PERFORMANCE.md"
 MARKED = re.compile(r"(<!-- figures: (\w+) -->\n).*?(<!-- end -->)", re.S)
 
+CALLERS = ("Rattle", "C", "Rust", "Python", "py-radix", "Net::Patricia", "rte_lpm")
 TO_PLAIN = ["Clock", "To plain", "Processors to plain", "Memory", "To plain"]
 
 
@@ -25,51 +26,36 @@ def number(value):
     return f"{value:,.0f}" if value >= 10 else f"{value:.2g}"
 
 
-def ratio(one, other):
+def ratio(one, other, *_others):
     return f"{one / other:.2f}"
 
 
-def ours(pair):
-    """Ours, and the ratio to the other's."""
-    return [number(pair[0]), ratio(*pair)]
+def named(row, *names):
+    """The measures of these programs, empty if one has none."""
+    return [number(row[who]) if who in row else "" for who in names]
+
+
+def compared(row, one, other):
+    """The ratio of a program's measure to another's, if both have one."""
+    return ratio(row[one], row[other]) if one in row and other in row else ""
 
 
 def program(row):
-    return [*ours(row["clock"]), ratio(*row["processors"]), *ours(row["memory"])]
+    """Ours and the ratio to the other's: wall-clock time, processor time (only the ratio) and memory."""
+    clock, memory = row["clock"], row["memory"]
+    return [number(clock[0]), ratio(*clock), ratio(*row["processors"]), number(memory[0]), ratio(*memory)]
 
 
-def lock(row):
-    """The wall-clock times of the lock, C and the mutex, and the lock's ratios to C in wall-clock and processor time."""
-    clock, processors = row["clock"], row["processors"]
-    return [row["levels"], row["threads"], *map(number, clock), ratio(*clock[:2]), ratio(*processors[:2])]
-
-
-def shared(row):
-    """The wall-clock times of the table and the mutex, and the ratios of wall-clock and processor times."""
-    cells = [row["on"], row["threads"], row["batch"], *map(number, row["clock"])]
-    return cells + [ratio(*row["clock"]), ratio(*row["processors"])]
+def beside(row):
+    """The wall-clock times, and the ratios of the first two in wall-clock and processor time."""
+    return [*map(number, row["clock"]), ratio(*row["clock"]), ratio(*row["processors"])]
 
 
 def busy(row):
     """Several files, one file, the plain program: the middle, the range, and the ratios."""
     several, one, plain = row["clock"]
     cells = [row["others"], row["files"], row["batch"], number(several[0]), f"{number(several[1])} to {number(several[2])}"]
-    return cells + [ratio(several[0], one[0]), ratio(several[0], plain[0]), ratio(*row["processors"][:2])]
-
-
-def query(row):
-    """The seconds of a query on this number of processors."""
-    return [f"`{row['query']}`", row["on"], f"{row['clock'][0]:.1f}", f"{row['processors'][0]:.1f}"]
-
-
-CALLERS = ("Rattle", "C", "Rust", "Python", "py-radix", "Net::Patricia", "rte_lpm")
-
-
-def library(row):
-    """The cost of a call for each program, and C's ratio to Rattle."""
-    to_rattle = ratio(row["C"], row["Rattle"]) if "C" in row and "Rattle" in row else ""
-    cells = [number(row[who]) if who in row else "" for who in CALLERS]
-    return [f"`{row['call']}`", *cells[:2], to_rattle, *cells[2:]]
+    return cells + [ratio(several[0], one[0]), ratio(several[0], plain[0]), ratio(*row["processors"])]
 
 
 def callers(row):
@@ -91,10 +77,8 @@ def fib_call(row):
 
 def fib(row):
     """The cost of a call, and its ratio to the same in C and in Rust; then the book and other libraries."""
-    cells = [fib_call(row), number(row["Rattle"])]
-    for who in ("C", "Rust"):
-        cells += [number(row[who]), ratio(row["Rattle"], row[who])] if who in row else ["", ""]
-    return cells + [number(row[who]) if who in row else "" for who in ("book", *CALLERS[-3:])]
+    ratios = [cell for who in ("C", "Rust") for cell in (*named(row, who), compared(row, "Rattle", who))]
+    return [fib_call(row), number(row["Rattle"]), *ratios, *named(row, "book", *CALLERS[-3:])]
 
 
 def fib_below(rows):
@@ -108,37 +92,23 @@ def is_compared(row):
     return any(who in row for who in ("book", *CALLERS[1:]))
 
 
+# The heads of each table, and the cells of a row.
 TABLES = {
-    "busy": (
-        ["Busy processes", "Files", "Batch", "Clock", "Range", "To one file", "To plain", "Processors to one file"],
-        busy,
-    ),
+    "busy": (["Busy processes", "Files", "Batch", "Clock", "Range", "To one file", "To plain", "Processors to one file"], busy),
     "run": (["Input", "Batch", *TO_PLAIN], lambda row: [row["input"], row["batch"], *program(row)]),
-    "route_server": (
-        ["Files", "Processors", "Batch", *TO_PLAIN],
-        lambda row: [row["files"], row["on"], row["batch"], *program(row)],
-    ),
-    "queries": (["Query", "Processors", "Clock", "Processor time"], query),
-    "lock": (
-        ["Levels", "Threads", "Lock", "C", "Mutex", "Lock to C", "Processors to C"],
-        lock,
-    ),
-    "shared": (
-        ["Processors", "Threads", "Batch", "Table", "Mutex", "To mutex", "Processors to mutex"],
-        shared,
-    ),
-    "fib": (
-        ["Call", "Rattle", "C", "Ratio", "Rust", "Ratio", "Book", *CALLERS[-3:]],
-        fib,
-    ),
-    "library": (
-        ["Call", *CALLERS[:2], "C to Rattle", *CALLERS[2:]],
-        library,
-    ),
-    "instructions": (
-        ["Instructions a line", "One prefix", "Real lengths"],
-        lambda row: [row["part"], f"{row['one_prefix']:,}", f"{row['real_lengths']:,}"],
-    ),
+    "route_server": (["Files", "Processors", "Batch", *TO_PLAIN],
+                     lambda row: [row["files"], row["on"], row["batch"], *program(row)]),
+    "queries": (["Query", "Processors", "Clock", "Processor time"],
+                lambda row: [f"`{row['query']}`", row["on"], f"{row['clock'][0]:.1f}", f"{row['processors'][0]:.1f}"]),
+    "lock": (["Levels", "Threads", "Lock", "C", "Mutex", "Lock to C", "Processors to C"],
+             lambda row: [row["levels"], row["threads"], *beside(row)]),
+    "shared": (["Processors", "Threads", "Batch", "Table", "Mutex", "To mutex", "Processors to mutex"],
+               lambda row: [row["on"], row["threads"], row["batch"], *beside(row)]),
+    "fib": (["Call", "Rattle", "C", "Ratio", "Rust", "Ratio", "Book", *CALLERS[-3:]], fib),
+    "library": (["Call", *CALLERS[:2], "C to Rattle", *CALLERS[2:]],
+                lambda row: [f"`{row['call']}`", *named(row, *CALLERS[:2]), compared(row, "C", "Rattle"), *named(row, *CALLERS[2:])]),
+    "instructions": (["Instructions a line", "One prefix", "Real lengths"],
+                     lambda row: [row["part"], f"{row['one_prefix']:,}", f"{row['real_lengths']:,}"]),
 }
 
 # The beginning of the line below a table, from all rows.

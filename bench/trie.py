@@ -28,19 +28,12 @@ def compare(programs, prefixes, rounds):
     if proved["same"] != proved["found"]:
         sys.exit("bench/trie.py: look-ups of several addresses find different values")
     rows = []
-    for call, beside in (
-        ("insert", "insert"),
-        ("longest", "longest"),
-        ("together", "longest"),
-        ("retain", "retain"),
-        ("remove", "remove"),
-    ):
-        row = {"prefixes": prefixes, "call": call}
+    for call in ("insert", "longest", "together", "retain", "remove"):
+        row, beside = {"prefixes": prefixes, "call": call}, "longest" if call == "together" else call
         for measure, kind in (("clock", ""), ("processors", "_cpu")):
             row[measure] = [min(run[0][call + kind] for run in runs), min(run[1][beside + kind] for run in runs)]
         rows.append(row)
-        pairs = (row["clock"], row["processors"])
-        shown = "".join(f" {ours:8} {theirs:8} {ours / theirs:6.2f}" for ours, theirs in pairs)
+        shown = "".join(f" {ours:8} {theirs:8} {ours / theirs:6.2f}" for ours, theirs in (row["clock"], row["processors"]))
         print(f"{prefixes:8} {call:8}{shown}", flush=True)
     each = plain["asked"] / plain["prefixes"]
     print(f"{prefixes:8} {proved['nodes']} nodes; plain Rust asked for {each:.1f} bytes a prefix")
@@ -51,14 +44,14 @@ def main():
     reader = results.reader(__doc__, rounds=5)
     reader.add_argument("prefixes", nargs="*", type=int, default=[3_000, 30_000, 500_000])
     words = results.begin(reader)
-    rounds, rows = words.rounds, []
+    rows = []
     with tempfile.TemporaryDirectory() as folder:
         peer = built_peer(pathlib.Path(folder), "trie_peer.rs")
         programs = [built_benches("trie", "2000"), "trie"], [peer]
         print(f"{'prefixes':8} {'call':8} {'clock':>8} {'plain':>8} {'ratio':>6} {'cpu':>8} {'plain':>8} {'ratio':>6}")
         for prefixes in words.prefixes:
-            rows += compare(programs, prefixes, rounds * max(1, 100_000 // prefixes))
-    results.keep("trie", rounds, rows)
+            rows += compare(programs, prefixes, words.rounds * max(1, 100_000 // prefixes))
+    results.keep("trie", words.rounds, rows)
 
 
 if __name__ == "__main__":

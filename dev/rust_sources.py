@@ -149,10 +149,6 @@ class Source:
                 waiting = item.members() + waiting
         return found
 
-    def function_at(self, line):
-        """Returns the function that contains this line, counted from 0."""
-        return next((one for one in self.functions if one.start <= line < one.end), None)
-
     def named(self, path):
         """Returns the function of this source that the prover names by this path, or None."""
         *owners, name = path.split("::")

@@ -18,6 +18,8 @@ from packaging.manuals import manual
 
 LIBRARIES = "usr/lib/x86_64-linux-gnu"
 NOBODY = "nobody <nobody@invalid.invalid>"
+# Bytecode that root's calls leave isn't the package's, so dpkg would not remove it.
+NO_BYTECODE = '#!/bin/sh\nset -e\nrm -rf "$DPKG_ROOT/usr/lib/python3/dist-packages/yarib/__pycache__"\n'
 GLIBC = {"program": "2.34", "library": "2.32"}  # the oldest C library with which each runs
 
 
@@ -78,7 +80,7 @@ class Release:
         sums = [f"{hashlib.md5(content).hexdigest()}  {path}\n" for path, (content, _) in sorted(tree.files.items())]
         control.add("md5sums", "".join(sums))
         for file, text in package.more.items():
-            control.add(file, text)
+            control.add(file, text, 0o755 if file == "prerm" else 0o644)
         self.files[f"{name}_{VERSION}_{package.architecture}.deb"] = deb(control, tree, self.time)
 
     def document(self, tree, name):
@@ -112,7 +114,7 @@ class Release:
         tree.files["usr/bin/yarib"] = (staged["bin/yarib.in"][0].replace(b"@PREFIX@", b"/usr"), 0o755)
         tree.files["usr/share/zsh/vendor-completions/_yarib"] = staged["share/zsh/site-functions/_yarib"]
         tree.include(self.tools, "usr/")
-        # Bytecode that root's calls would leave isn't the package's, so dpkg would not remove it.
+        # These calls leave no bytecode either.
         for path, (content, mode) in [*tree.files.items()]:
             tree.files[path] = (content.replace(b"#!/usr/bin/env python3\n", b"#!/usr/bin/python3 -B\n", 1), mode)
         for path in [path for path in tree.files if path.startswith("usr/share/man/")]:
@@ -157,7 +159,7 @@ class Release:
         tree.files["usr/share/doc/python3-yarib/examples/example.py"] = (tree.files["usr/share/doc/python3-yarib/examples/example.py"][0], 0o644)
         return Package("python3-yarib", "python", f"libyarib0 (= {VERSION}), python3:any (>= 3.9)", (
             "IPv4 routing tables with proved answers - Python\n"
-            " Calls libyarib through ctypes."), tree, architecture="all")
+            " Calls libyarib through ctypes."), tree, architecture="all", more={"prerm": NO_BYTECODE})
 
     # -- other archives
 

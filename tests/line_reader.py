@@ -16,8 +16,8 @@ def reading(line, version):
     if isinstance(command, int):
         return command
     name, *fields = command
-    faults = [fault(field, version) for fault, field in zip(FIELD_FAULTS[name], fields)]
-    return next(filter(None, faults), None) or command
+    kinds = ("address",) if name == "lookup" else ("prefix", "preference", "hop")
+    return next(filter(None, (fault(kind, field, version) for kind, field in zip(kinds, fields))), None) or command
 
 
 def decimal(text):
@@ -31,32 +31,20 @@ def address(text):
     return int.from_bytes(octets, "big") if is_address else None
 
 
-def prefix_fault(text, _version):
+def fault(kind, text, version):
+    """The number of the fault of a field of this kind, or None."""
+    if kind == "preference":
+        number = decimal(text)
+        return 6 if number is None or number >= 2**32 else None
+    if kind == "hop":
+        return 7 if address(text) is None and (version == 1 or text != "discard") else None
+    if kind == "address":
+        return 3 if address(text) is None else None
     base, *lengths = text.split("/")
     base, length = address(base), decimal(lengths[0]) if len(lengths) == 1 else None
     if base is None or length is None:
         return 3
     return 4 if length > 32 else 5 if base % 2 ** (32 - length) else None
-
-
-def address_fault(text, _version):
-    return 3 if address(text) is None else None
-
-
-def preference_fault(text, _version):
-    number = decimal(text)
-    return 6 if number is None or number >= 2**32 else None
-
-
-def hop_fault(text, version):
-    return 7 if address(text) is None and (version == 1 or text != "discard") else None
-
-
-OFFER_FAULTS = (prefix_fault, preference_fault, hop_fault)
-FIELD_FAULTS = {
-    "add": OFFER_FAULTS, "replace": OFFER_FAULTS, "withdraw": (prefix_fault,), "lookup": (address_fault,), "dump": (),
-    "purge": (),
-}
 
 
 def added(prefix):

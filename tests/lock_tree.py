@@ -20,11 +20,14 @@ class Tree:
     def passages(self, place):
         while True:
             for level in range(1, self.levels + 1):
-                yield from self.enter(level, place, " inside" if level == self.levels else "")
+                last = yield from self.enter(level, place)
+                yield last + (" inside" if level == self.levels else "")
             for level in range(self.levels, 0, -1):
-                yield from self.leave(level, place, " out" if level == 1 else "")
+                last = yield from self.leave(level, place)
+                yield last + (" out" if level == 1 else "")
 
-    def enter(self, level, place, mark):
+    def enter(self, level, place):
+        """Yields the steps but for the last one, and returns that."""
         node, side, own = place >> level, place >> level - 1 & 1, place + 1
         last, spin = f"T{level}.{node}", f"P{level}.{place}"
         yield self.store(f"C{level}.{node}.{side}", own)
@@ -32,13 +35,11 @@ class Tree:
         yield self.store(spin, 0)
         rival, text = self.load(f"C{level}.{node}.{1 - side}")
         if rival == 0:
-            yield text + mark
-            return
+            return text
         yield text
         announced, text = self.load(last)
         if announced != own:
-            yield text + mark
-            return
+            return text
         yield text
         waits, text = self.load(f"P{level}.{rival - 1}")
         yield text
@@ -50,25 +51,22 @@ class Tree:
             yield text
         announced, text = self.load(last)
         if announced != own:
-            yield text + mark
-            return
+            return text
         yield text
         while True:
             waits, text = self.load(spin)
             if waits == 2:
-                yield text + mark
-                return
+                return text
             yield text
 
-    def leave(self, level, place, mark):
+    def leave(self, level, place):
         node, side, own = place >> level, place >> level - 1 & 1, place + 1
         yield self.store(f"C{level}.{node}.{side}", 0)
         announced, text = self.load(f"T{level}.{node}")
         if announced == own:
-            yield text + mark
-            return
+            return text
         yield text
-        yield self.store(f"P{level}.{announced - 1}", 2) + mark
+        return self.store(f"P{level}.{announced - 1}", 2)
 
     def text(self, picks):
         lines = []

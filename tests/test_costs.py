@@ -4,9 +4,7 @@ run.
 No clause says how long anything takes. Waits are counted (tests/waits.c); other work on the machine changes these
 counts little. Processor time is compared with a baseline in the same run, which other work slows down by the same
 factor: passages of a mutex in C, or what the same call has used before its first output. Each bound is one and a half
-to three times the measured value, and holds for the best of some rounds; a mutant stays below it in none.
-YARIB_SHOW_COSTS=1 prints what is measured."""
-import os
+to three times the measured value, and holds for the best of some rounds; a mutant stays below it in none."""
 import random
 import struct
 import subprocess
@@ -65,12 +63,7 @@ class CostCase(TestCase):
         self.write({"dumps.feed": "dump\n" * lines})
         return self.costs("run", "--batch", "1", *["dumps.feed"] * files)
 
-    def show(self, name, found):
-        if os.environ.get("YARIB_SHOW_COSTS"):
-            print(f"  {name}: {found}", flush=True)
-
     def assert_at_most(self, name, found, bound):
-        self.show(name, f"{found:.2f}, at most {bound}")
         with self.subTest(name):
             self.assertLessEqual(found, bound)
 
@@ -86,21 +79,19 @@ class WaitsOfFiles(CostCase):
         """Files that meet one another at each entry, and a crowd: each thread waits at a single word of its own. Some
         nap, some sleep, and some are woken."""
         self.write_meeting(dumps=100_000, seldom=0)
-        for at in range(ROUNDS):
+        for _ in range(ROUNDS):
             meeting = self.costs("run", "--batch", "1", "meeting.feed", "adds.feed", HOLD_UP="1").waits
             waits = meeting + self.dumps(8, 4_000).waits
             kinds = [sum(place[kind] for place in waits) for kind in range(3)]
             if min(kinds) > 0:
                 break
-        self.show("naps, sleeps and wakes of two files that meet, and of 8", f"{kinds}, in round {at + 1}")
-        self.assertGreater(min(kinds), 0)
+        self.assertGreater(min(kinds), 0, kinds)
 
     # Catches a place that naps inside, or at each entry.
     def test_a_crowd_seldom_naps(self):
         """Eight files that enter all the time. After a nap a file finds the door free for as long as others nap: at
         most one of 20 entries naps."""
         naps = min(sum(place.naps for place in self.dumps(8, 4_000).waits) for _ in range(3))
-        self.show("naps of 32,000 entries of 8 files", naps)
         self.assertLessEqual(naps, 32_000 / 20)
 
     # Catches a lock whose places never nap, or look only at one side of the root: `file 1`, `file 2`.
@@ -109,11 +100,7 @@ class WaitsOfFiles(CostCase):
         self.write_meeting(dumps=1_000_000, seldom=0)
         for file, names in ((1, ["meeting.feed", "adds.feed"]), (2, ["adds.feed", "meeting.feed"])):
             with self.subTest(f"file {file}"):
-                for at in range(ROUNDS):
-                    if naps := self.met(file, *names, HOLD_WAKES="1").naps:
-                        break
-                self.show(f"naps of file {file}", f"{naps}, in round {at + 1}")
-                self.assertGreater(naps, 0)
+                self.assertTrue(any(self.met(file, *names, HOLD_WAKES="1").naps for _ in range(ROUNDS)), "no naps")
 
     # Catches a place that never forgets contention.
     def test_contention_is_forgotten(self):
@@ -123,7 +110,6 @@ class WaitsOfFiles(CostCase):
         # every round.
         for _ in range(8):
             waits = self.met(1, "meeting.feed", "adds.feed")
-            self.show("waits of the file of dumps", waits)
             if waits.naps < 40 and waits.sleeps >= 60:
                 return
         self.fail(f"file 1 hasn't forgotten the crowd: in the last round {waits}")

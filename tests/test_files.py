@@ -1,6 +1,4 @@
-"""The program's files: names, what can't be read, reports on standard error, and outputs that can't be written."""
-import os
-
+"""The program's files: names, what can't be read, and reports on standard error."""
 from dev.models import calls
 from dev.models.table_model import E1, E8, MAX_FEEDS
 from tests.cases import ProgramCase, route
@@ -13,16 +11,6 @@ OVER = "yarib: {}: adds over the limit: {}, the first is line {}\n".format
 TWICE = "yarib: {}: duplicate adds: {}, the first is line {}\n".format
 GONE = "yarib: {}: replaces and withdraws without a route: {}, the first is line {}\n".format
 FOUND = "10.0.0.1 route "
-# Calls with an output, and calls without one.
-WRITING = [
-    "lookup --help", "table --help", "lookup --address 10.0.0.1 row.feed", "table row.feed", "--help", "help run",
-    "run --help", "replay --help", "--version", "-V", "replay --levels 6", "replay --levels 2 3 3 3 3 3 3 3 3 3 3 3 3",
-    "run row.feed", "run empty.feed", "run faulty.feed",
-]
-SILENT = [
-    ("table empty.feed", "", 0), ("run missing", "yarib: cannot read missing\n", 4),
-    ("replay --levels 7", "yarib: fault P2\n", 3),
-]
 
 
 class Names(ProgramCase):
@@ -35,13 +23,14 @@ class Names(ProgramCase):
             ("-- --limit", "--limit"),
         ):
             self.assert_unreadable(f"run {words}", file)
-        for name in ("", "no such file", "né.feed", "x" * 300, "/no/such/file", "-", "it's $HOME"):
+        for name in ("", "no such file", "né.feed", "x" * 300, "/no/such/file", "-", "it's $HOME",
+                     "a missing name\nof two lines", "y" * 5_000):
             self.assert_unreadable(["run", name], name, name=f"the missing file {name[:20]!r}")
 
     # Catches a program that can't read a file with a name of 300 bytes: the file.
     def test_names(self):
         long, absolute = "d" * 150 + "/" + "f" * 149, str(self.folder / "absolute.feed")
-        for name in ("a name.feed", "é.feed", " ", "it's $HOME", "ＡＢＣ", long, absolute):
+        for name in ("a name.feed", "é.feed", " ", "it's $HOME", "ＡＢＣ", "a name\nof two lines", long, absolute):
             self.write({name: ROW})
             self.assert_prints(["run", name], ROW_OUT, name="an absolute path" if name == absolute else repr(name[:20]))
 
@@ -131,23 +120,3 @@ class CutFiles(ProgramCase):
     # Catches a report with a status of its own, or one that replaces that of rejected input: `table faulty-line.feed`.
     def test_calls(self):
         self.assert_calls(calls.CUT_FILES, calls.CUT)
-
-
-class Outputs(ProgramCase):
-    # Catches status 0 if help or version can't be written: `--help`.
-    def test_closed_output(self):
-        for words, stderr, returncode in (*((words, "yarib: cannot write\n", 6) for words in WRITING), *SILENT):
-            with self.subTest(words):
-                ended = self.yarib(*words.split(), stdout=None, preexec_fn=lambda: os.close(1))
-                self.assert_ended(ended, "", stderr, returncode)
-
-    # Catches status 0 for an output that accepts nothing: the status is not 6.
-    def test_full_output(self):
-        for words in WRITING:
-            self.assert_cannot_write(words)
-
-    def test_nothing_open(self):
-        for words in WRITING:
-            with self.subTest(words):
-                ended = self.yarib(*words.split(), stdout=None, stderr=None, preexec_fn=lambda: os.closerange(0, 3))
-                self.assert_ended(ended, returncode=6)

@@ -1,5 +1,5 @@
 """Runs the program on paths that aren't files, on files that can't be read, on pipes among long files, which several
-threads read, on odd names, and with outputs that accept nothing."""
+threads read, and with outputs that accept nothing."""
 import os
 import pathlib
 import resource
@@ -14,7 +14,19 @@ from tests.texts import AGAIN, ROW, ROW_OUT
 NEEDS = {"program"}
 # A comment that makes three files, or two, as long as it takes for a second thread to read them.
 LONG = f"# {'-' * 100}\n" * 11_000
-CANNOT_WRITE = {"stderr": "yarib: cannot write\n", "returncode": 6}
+CANNOT_WRITE = "yarib: cannot write\n"
+# Calls with an output, and calls without one.
+WRITING = [
+    "lookup --help", "table --help", "lookup --address 10.0.0.1 row.feed", "table row.feed", "--help", "help run",
+    "run --help", "replay --help", "--version", "-V", "replay --levels 6", "replay --levels 2 3 3 3 3 3 3 3 3 3 3 3 3",
+    "replay --levels 1 0", "run row.feed", "run empty.feed", "run faulty.feed", "run large.feed",
+    "lookup --addresses addresses.txt row.feed", "lookup --all --addresses addresses.txt row.feed",
+    "diff row.feed -- empty.feed",
+]
+SILENT = [
+    ("table empty.feed", "", 0), ("run missing", "yarib: cannot read missing\n", 4),
+    ("replay --levels 7", "yarib: fault P2\n", 3),
+]
 
 
 def rows_of(feeds):
@@ -22,15 +34,9 @@ def rows_of(feeds):
     return "".join(row("10.0.0.0/8", feed, 100) for feed in feeds)
 
 
-def close_all():
-    """Closes standard input, output and error, in a process that is about to begin."""
-    for descriptor in (0, 1, 2):
-        os.close(descriptor)
-
-
 class FileCase(TestCase):
     def setUp(self):
-        self.write({"row.feed": ROW, "empty.feed": ""})
+        self.write({"row.feed": ROW, "empty.feed": "", "faulty.feed": "frob\n"})
 
     def assert_prints(self, name, words, stdout="", stderr="", returncode=0, **settings):
         with self.subTest(name):
@@ -96,14 +102,6 @@ class Files(FileCase):
             every = f"10.0.0.1 route {first}\n" + "".join(f"10.0.0.1 also {line} feed\n" for line in others)
             self.assert_prints(f"all that covers, in {name} files",
                                ["lookup", "--all", "--address", "10.0.0.1", *[file] * count], every)
-
-    def test_odd_names(self):
-        name = str(self.folder / "a name\nof two lines")
-        self.write({name: ROW})
-        self.assert_prints("with a space and an LF", ["run", name], ROW_OUT)
-        self.assert_unreadable("missing, with an LF", ["run", name + "x"], name + "x")
-        self.assert_prints("no text", ["run", b"\xff.feed"], "", "yarib: arguments are not UTF-8\n", 3)
-        self.assert_unreadable("of 5,000 bytes", ["run", "x" * 5_000], "x" * 5_000)
 
 
 class Pipes(FileCase):
@@ -221,35 +219,29 @@ class Outputs(FileCase):
         super().setUp()
         self.write({"large.feed": AGAIN * 2_500, "addresses.txt": "10.0.0.1\n" * 5_000})
 
+    # Catches status 0 if help or version can't be written: `--help`.
+    # Catches status 0 for an output that accepts nothing: the status is not 6.
     def test_outputs_that_accept_nothing(self):
-        for words in (
-            ["run", "row.feed"], ["run", "large.feed"], ["lookup", "--addresses", "addresses.txt", "row.feed"],
-            ["lookup", "--all", "--addresses", "addresses.txt", "row.feed"], ["table", "row.feed"],
-            ["diff", "row.feed", "--", "empty.feed"], ["replay", "--levels", "1", "0"], ["run", "--help"],
-            ["--version"],
-        ):
-            self.assert_nothing_written(words)
-        self.assertEqual((self.folder / "row.feed").read_text(), ROW)
-
-    def assert_nothing_written(self, words):
-        name = " ".join(words)
-        with open("/dev/full", "w") as full:
-            self.assert_prints(f"{name}: a full output", words, stdout_to=full, **CANNOT_WRITE)
-            self.assert_prints(f"{name}: both outputs full", words, returncode=6, stdout_to=full, stderr_to=full)
-        self.assert_prints(f"{name}: a closed output", words, stdout_to=None,
-                           preexec_fn=lambda: os.close(1), **CANNOT_WRITE)
         reading, writing = os.pipe()
         os.close(reading)
-        self.assert_prints(f"{name}: a pipe without a reader", words, stdout_to=writing, **CANNOT_WRITE)
-        os.close(writing)
-        self.assert_prints(f"{name}: nothing is open", words, returncode=6, stdout_to=None, stderr_to=None,
-                           preexec_fn=close_all)
+        with open("/dev/full", "w") as full, open(writing, "w") as unread:
+            for name, stderr, settings in (
+                ("a full output", CANNOT_WRITE, {"stdout": full}),
+                ("both outputs full", "", {"stdout": full, "stderr": full}),
+                ("a closed output", CANNOT_WRITE, {"stdout": None, "preexec_fn": lambda: os.close(1)}),
+                ("a pipe without a reader", CANNOT_WRITE, {"stdout": unread}),
+                ("nothing is open", "", {"stdout": None, "stderr": None, "preexec_fn": lambda: os.closerange(0, 3)}),
+            ):
+                for words in WRITING:
+                    with self.subTest(f"{words}: {name}"):
+                        self.assert_ended(self.yarib(*words.split(), **settings), "", stderr, 6)
+        self.assertEqual((self.folder / "row.feed").read_text(), ROW)
 
-    def assert_prints(self, name, words, *ending, preexec_fn=None, stdout_to=subprocess.PIPE, stderr_to=subprocess.PIPE,
-                      **more):
-        with self.subTest(name):
-            ended = self.yarib(*words, stdout=stdout_to, stderr=stderr_to, preexec_fn=preexec_fn)
-            self.assert_ended(ended, *ending, **more)
+    def test_closed_outputs_that_nothing_needs(self):
+        for words, stderr, returncode in SILENT:
+            with self.subTest(words):
+                ended = self.yarib(*words.split(), stdout=None, preexec_fn=lambda: os.close(1))
+                self.assert_ended(ended, "", stderr, returncode)
 
     def test_a_reader_that_leaves(self):
         """The reader of the output reads its beginning and closes it."""
@@ -258,7 +250,7 @@ class Outputs(FileCase):
             self.assertEqual(process.stdout.read(10), b"1:1 added\n")
             process.stdout.close()
             stderr = process.stderr.read().decode()
-            self.assertEqual((process.wait(), stderr), (6, "yarib: cannot write\n"))
+            self.assertEqual((process.wait(), stderr), (6, CANNOT_WRITE))
 
     def test_a_disc_that_fills(self):
         """The output's file may not grow beyond some size: the file's contents are a prefix of the output."""
@@ -269,9 +261,9 @@ class Outputs(FileCase):
                 resource.setrlimit(resource.RLIMIT_FSIZE, (size, size))
 
             target = self.folder / "target"
-            with open(target, "w") as output:
-                self.assert_prints(f"at most {size} bytes", ["run", "large.feed"], stdout_to=output, preexec_fn=limit,
-                                   **CANNOT_WRITE)
+            with self.subTest(f"at most {size} bytes"), open(target, "w") as output:
+                ended = self.yarib("run", "large.feed", stdout=output, preexec_fn=limit)
+                self.assert_ended(ended, "", CANNOT_WRITE, 6)
             with self.subTest(f"the first {size} bytes"):
                 self.assertTrue(target.read_text() == whole[:size])
 

@@ -173,30 +173,28 @@ ASKED_TWICE = ["add 10.0.0.0/8 1 192.0.2.1\n", "lookup 10.1.2.3\nlookup 10.1.2.3
 EACH_OTHER = ["lookup 10.0.0.1\nadd 11.0.0.0/8 1 192.0.2.1\n", "lookup 11.0.0.1\nadd 10.0.0.0/8 2 192.0.2.2\n"]
 TEN, ELEVEN, OTHER_TEN = route_text("10.0.0.0/8"), route_text("11.0.0.0/8"), route_text("10.0.0.0/8", 2, 2, "192.0.2.2")
 FOUND_TEN = f"2:2 route {TEN}"
+BOTH, FOUND_OTHER = ["1:1 added", "1:2 withdrawn"], [f"1:1 route {OTHER_TEN}", "1:2 added"]
+NONE_FOUND = [*FOUND_OTHER, "2:1 no route", "2:2 added", "table 2"]
 # Outputs: their name, the texts, how many commands are executed at once, the lines, and whether some order of batches
 # explains them.
 JUDGED = [
-    ("a dump behind both", COMES_AND_GOES, 1, ["1:1 added", "1:2 withdrawn", "2:1 dumped 0", "table 0"], True),
-    ("a dump between both", COMES_AND_GOES, 1, ["1:1 added", "1:2 withdrawn", "2:1 dumped 1", "table 0"], True),
-    ("a dump that cuts a batch", COMES_AND_GOES, 2, ["1:1 added", "1:2 withdrawn", "2:1 dumped 1", "table 0"], False),
-    ("a lost withdrawal", COMES_AND_GOES, 1, ["1:1 added", "1:2 withdrawn", "2:1 dumped 1", "table 1", TEN], False),
+    ("a dump behind both", COMES_AND_GOES, 1, [*BOTH, "2:1 dumped 0", "table 0"], True),
+    ("a dump between both", COMES_AND_GOES, 1, [*BOTH, "2:1 dumped 1", "table 0"], True),
+    ("a dump that cuts a batch", COMES_AND_GOES, 2, [*BOTH, "2:1 dumped 1", "table 0"], False),
+    ("a lost withdrawal", COMES_AND_GOES, 1, [*BOTH, "2:1 dumped 1", "table 1", TEN], False),
     ("swapped replies", COMES_AND_GOES, 1, ["1:1 withdrawn", "1:2 added", "2:1 dumped 0", "table 0"], False),
-    ("more routes than there ever were", COMES_AND_GOES, 1,
-     ["1:1 added", "1:2 withdrawn", "2:1 dumped 2", "table 0"], False),
+    ("more routes than there ever were", COMES_AND_GOES, 1, [*BOTH, "2:1 dumped 2", "table 0"], False),
     ("a missing line", COMES_AND_GOES, 1, ["1:1 added", "2:1 dumped 0", "table 0"], False),
     ("a line of another feed", COMES_AND_GOES, 1, ["1:1 added", "2:2 withdrawn", "2:1 dumped 0", "table 0"], False),
-    ("another count of the table", COMES_AND_GOES, 1, ["1:1 added", "1:2 withdrawn", "2:1 dumped 0", "table 1"], False),
-    ("a line after the table", COMES_AND_GOES, 1,
-     ["1:1 added", "1:2 withdrawn", "2:1 dumped 0", "table 0", "table 0"], False),
+    ("another count of the table", COMES_AND_GOES, 1, [*BOTH, "2:1 dumped 0", "table 1"], False),
+    ("a line after the table", COMES_AND_GOES, 1, [*BOTH, "2:1 dumped 0", "table 0", "table 0"], False),
     ("an add between look-ups", ASKED_TWICE, 1, ["1:1 added", "2:1 no route", FOUND_TEN, "table 1", TEN], True),
     ("an add that cuts a batch", ASKED_TWICE, 2, ["1:1 added", "2:1 no route", FOUND_TEN, "table 1", TEN], False),
     ("swapped look-ups", ASKED_TWICE, 1, ["1:1 added", f"2:1 route {TEN}", "2:2 no route", "table 1", TEN], False),
-    ("one finds the other's route", EACH_OTHER, 1,
-     [f"1:1 route {OTHER_TEN}", "1:2 added", "2:1 no route", "2:2 added", "table 2", OTHER_TEN, ELEVEN], True),
+    ("one finds the other's route", EACH_OTHER, 1, [*NONE_FOUND, OTHER_TEN, ELEVEN], True),
     ("each finds what the other adds later", EACH_OTHER, 1,
-     [f"1:1 route {OTHER_TEN}", "1:2 added", f"2:1 route {ELEVEN}", "2:2 added", "table 2", OTHER_TEN, ELEVEN], False),
-    ("a table out of order", EACH_OTHER, 1,
-     [f"1:1 route {OTHER_TEN}", "1:2 added", "2:1 no route", "2:2 added", "table 2", ELEVEN, OTHER_TEN], False),
+     [*FOUND_OTHER, f"2:1 route {ELEVEN}", "2:2 added", "table 2", OTHER_TEN, ELEVEN], False),
+    ("a table out of order", EACH_OTHER, 1, [*NONE_FOUND, ELEVEN, OTHER_TEN], False),
 ]
 
 

@@ -45,7 +45,7 @@ cc -o example /usr/share/doc/libyarib-dev/examples/example.c $(pkg-config --cfla
 ./example
 test -e /usr/lib/x86_64-linux-gnu/cmake/yarib/yarib-config.cmake
 gzip -cd /usr/share/man/man3/yarib.3.gz | grep -q '^.SH TYPES AND CALLS'
-python3 -B /usr/share/doc/python3-yarib/examples/example.py
+python3 /usr/share/doc/python3-yarib/examples/example.py
 """
 # How an example of Go or Rust is built of the archive of its sources, in which directory, as which file, and how a test of
 # the archive is run by its test vectors.
@@ -155,6 +155,19 @@ class Packages(TestCase):
     def test_lintian(self):
         self.assert_ended(self.call("lintian", "-i", "-E", "--fail-on", "error,warning,info", *sorted(release().glob("*.deb"))))
 
+    # Catches a package for Python that leaves the bytecode of root's calls.
+    @needs_command("dpkg")
+    def test_removal_of_bytecode(self):
+        dpkg = ["dpkg", f"--root={self.folder / 'root'}", "--force-not-root,depends,script-chrootless"]
+        (self.folder / "root/var/lib/dpkg").mkdir(parents=True)
+        [package] = release().glob("python3-yarib_*.deb")
+        self.assert_ended(self.call(*dpkg, "-i", package), stdout=None, stderr=None)
+        self.write({"root/usr/lib/python3/dist-packages/yarib/__pycache__/table.pyc": "", "root/usr/lib/python3/own/__pycache__/a": ""})
+        self.assert_ended(self.call(*dpkg, "--purge", "python3-yarib"), stdout=None, stderr=None)
+        self.assertEqual([str(path.relative_to(self.folder)) for path in self.folder.glob("root/usr/**/*") if not path.is_dir()],
+                         ["root/usr/lib/python3/own/__pycache__/a"])
+        self.assertFalse((self.folder / "root/usr/lib/python3/dist-packages").exists())
+
     # Catches an archive whose install script leaves something, such as bytecode, or installs what doesn't run.
     def test_archive(self):
         extract(release() / f"{ARCHIVE}.tar.gz", self.folder)
@@ -258,7 +271,8 @@ class Packages(TestCase):
             page = gzip.decompress((root / "usr/share/man/man1/yarib-bird-to-feeds.1.gz").read_bytes())
             self.assertEqual(page[:4], b".TH ")
         self.assert_ended(in_root("dpkg --purge python3-yarib libyarib-dev libyarib0 yarib"), stdout=None)
-        paths = "usr/bin/yarib", "usr/share/yarib", "usr/libexec/yarib", "usr/share/doc/yarib"
+        paths = ("usr/bin/yarib", "usr/share/yarib", "usr/libexec/yarib", "usr/share/doc/yarib",
+                 "usr/lib/python3/dist-packages/yarib")
         self.assertEqual([path for path in paths if (root / path).exists()], [])
 
     def root_of(self, version):

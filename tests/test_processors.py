@@ -3,6 +3,7 @@
 The machine's processors decide how many tables a query has. On four there are at most four, and no other test would
 notice a union of tables that refuses its tenth table."""
 import random
+import re
 import tempfile
 import unittest
 
@@ -21,28 +22,12 @@ NAMES = " ".join(f"f{feed}.feed" for feed in range(1, FILES + 1))
 # Sides share the processors by their bytes: the old one has over nine of sixteen.
 NEW = "f1.feed f2.feed f4.feed f61.feed f62.feed f63.feed"
 SIDES = " ".join(f"f{feed}.feed" for feed in range(1, FILES - 3)) + f" -- {NEW}"
-QUERIES = {
-    "table": f"table {NAMES}",
-    "best": f"table --best {NAMES}",
-    "json": f"table --json {NAMES}",
-    "csv": f"table --csv {NAMES}",
-    "names": f"table --names {NAMES}",
-    "count": f"table --count {NAMES}",
-    "total": f"table --best --total {NAMES}",
-    "within": f"table --within 10.20.0.0/14 {NAMES}",
-    "covering": f"table --covering 10.20.30.0/24 {NAMES}",
-    "exact": f"table --exact 10.0.7.0/24 {NAMES}",
-    "best_of_two_feeds": f"table --feed 64 --feed 3 --best {NAMES}",
-    "without_two_feeds": f"table --without 64 --without 5 {NAMES}",
-    "lookup": f"lookup --addresses asked.txt {NAMES}",
-    "lookup_all": f"lookup --all --addresses asked.txt {NAMES}",
-    "lookup_all_json": f"lookup --all --json --addresses asked.txt {NAMES}",
-    "lookup_names": f"lookup --names --addresses asked.txt {NAMES}",
-    "diff": f"diff {SIDES}",
-    "diff_by_route": f"diff --by route --names {SIDES}",
-    "diff_count": f"diff --count {SIDES}",
-    "diff_prefixes": f"diff --prefixes --csv {SIDES}",
-}
+OF_TABLE = ("", "--best", "--json", "--csv", "--names", "--count", "--best --total", "--within 10.20.0.0/14",
+            "--covering 10.20.30.0/24", "--exact 10.0.7.0/24", "--feed 64 --feed 3 --best", "--without 64 --without 5")
+OF_LOOKUP, OF_DIFF = ("", "--all", "--all --json", "--names"), ("", "--by route --names", "--count", "--prefixes --csv")
+QUERIES = [*((f"table {options}", NAMES) for options in OF_TABLE),
+           *((f"lookup {options}", f"--addresses asked.txt {NAMES}") for options in OF_LOOKUP),
+           *((f"diff {options}", SIDES) for options in OF_DIFF)]
 
 
 def feed_text(choice, feed):
@@ -95,5 +80,6 @@ class Processors(ProgramCase):
                 self.assertGreaterEqual(threads, reading + executing)
 
 
-for name, words in QUERIES.items():
-    setattr(Processors, f"test_{name}", lambda self, words=words: self.assert_same(words))
+for query, files in QUERIES:
+    setattr(Processors, "test_" + "_".join(re.findall(r"\w+", query)),
+            lambda self, words=f"{query} {files}": self.assert_same(words))

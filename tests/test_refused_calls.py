@@ -241,7 +241,7 @@ class Calls(RefusedCase):
 
     def test_the_benches(self):
         """No renaming in a library breaks the program of the benches unseen."""
-        self.assert_ended(self.call(benches()[0], "fib", "500"), None)
+        self.assert_ended(self.call(benches()[0], "fib", "500"), stdout=None, stderr=None)
 
     def test_the_lock(self):
         self.assert_call("lock", check_lock)

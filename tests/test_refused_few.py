@@ -55,21 +55,14 @@ class Few(RefusedCase):
         self.assert_each_refused(["run", "--batch", batch, *self.write_feeds("own", texts)], check_run(texts), numbers)
         self.assertEqual(self.kinds, {"run_texts", "a line of a run"})
 
-    def test_one_file_one_command_at_a_time(self):
-        self.assert_run([SIX_COMMANDS], "1")
-
-    def test_one_file_in_batches_of_3(self):
-        self.assert_run([SIX_COMMANDS], "3")
-
-    def test_three_files_one_command_at_a_time(self):
-        self.assert_run(THREE, "1")
-
-    def test_three_files_in_batches_of_3(self):
-        self.assert_run(THREE, "3")
-
     def test_a_replay(self):
         self.assert_each_refused(["replay", "--levels", "6", "5"], check_same)
         self.assertIn("fault P3", self.kinds)
+
+
+for files, texts in (("one_file", [SIX_COMMANDS]), ("three_files", THREE)):
+    for batch in ("1", "3"):
+        setattr(Few, f"test_{files}_in_batches_of_{batch}", lambda self, run=(texts, batch): self.assert_run(*run))
 
 
 # Catches a comparison, a query or a reader on one thread, and one that creates a thread for small tables: `its

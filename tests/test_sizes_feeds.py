@@ -5,8 +5,7 @@ import ipaddress
 import os
 import pathlib
 
-from dev.models.table_model import (MAX_FEEDS, all_answers_text, answers_text, dotted, json_text, members, ran, row,
-                                    run_text, told_text)
+from dev.models.table_model import MAX_FEEDS, dotted, json_text, members, ran, row, run_text, told_text
 from tests.launching import LaunchedCase
 
 NEEDS, PROVED = {"program"}, True
@@ -56,12 +55,13 @@ class Feeds(LaunchedCase):
         addresses = [addr for feed in feeds for addr in (f"{feed + 10}.129.0.1", f"{feed + 10}.1.2.3")]
         addresses += ["10.9.8.7", "255.255.255.255", "9.9.9.9"]
         words = [word for addr in addresses for word in ("--address", addr)]
-        listed = ran(texts, set(), LIMIT)[1].listed()
+        _, table = ran(texts, set(), LIMIT)
+        listed = table.listed()
         exact = {prefix: lines_of(line for line in listed if line.startswith(prefix + " "))
                  for prefix in ("10.0.0.0/8", "255.255.255.255/32")}
         for name, call, stdout in (
-            ("lookup", ["lookup", *words], answers_text(texts, addresses, LIMIT)),
-            ("lookup --all", ["lookup", "--all", *words], all_answers_text(texts, addresses, LIMIT)),
+            ("lookup", ["lookup", *words], lines_of(f"{addr} {table.best(addr)}" for addr in addresses)),
+            ("lookup --all", ["lookup", "--all", *words], "".join(line for at in addresses for line in table.all(at))),
             ("table", ["table"], lines_of(listed)),
             *((f"--exact {prefix}", ["table", "--exact", prefix], rows) for prefix, rows in exact.items()),
         ):
@@ -103,9 +103,10 @@ class Covering(LaunchedCase):
                          if feed <= count) for feed in range(1, MAX_FEEDS + 1)]
         names = [f"{feed}.feed" for feed in range(1, MAX_FEEDS + 1)]
         self.write(dict(zip(names, texts)))
+        _, table = ran(texts, set())
         self.assert_prints("lookup --all", ["lookup", "--all", *[f"--address={addr}" for addr in addresses], *names],
-                           all_answers_text(texts, addresses))
-        listed = ran(texts, set())[1].listed()
+                           "".join(line for addr in addresses for line in table.all(addr)))
+        listed = table.listed()
         networks = [ipaddress.IPv4Network(line.split()[0]) for line in listed]
         for addr in addresses[::step]:
             rows = [line for line, network in zip(listed, networks) if ipaddress.IPv4Address(addr) in network]

@@ -209,12 +209,7 @@ def report(feed, answers):
 
 def ran(texts, refused, limit=65_536):
     """The lines of the reports that a run of these texts prints if these lines, by feed and number, are refused, and
-    its table. Neither may be changed: the next call for the same texts returns them again."""
-    return last_run(tuple(texts), frozenset(refused), limit)
-
-
-@functools.lru_cache(1)
-def last_run(texts, refused, limit):
+    its table."""
     table, printed = Table(limit), []
     for feed, text in enumerate(texts, 1):
         for at, line in enumerate(text.splitlines(), 1):
@@ -269,15 +264,3 @@ def told_text(texts, names, limit=65_536):
             if lines := [place.split(":")[1] for place, found in answers if found == answer]:
                 told += f"yarib: {name}: {what}: {len(lines)}, the first is line {lines[0]}\n"
     return told
-
-
-def answers_text(texts, addresses, limit=65_536):
-    """The output of a look-up of these addresses for these texts."""
-    _, table = ran(texts, set(), limit)
-    return "".join(f"{addr} {table.best(addr)}\n" for addr in addresses)
-
-
-def all_answers_text(texts, addresses, limit=65_536):
-    """The same of `lookup --all`."""
-    _, table = ran(texts, set(), limit)
-    return "".join(line for addr in addresses for line in table.all(addr))

@@ -16,7 +16,8 @@ from dev.build.workspaces import lay_out
 DECLARED = re.compile(r" *(?:(?:pub|abbrev|unfoldable|record|data) )*([^\s:(){}\[\],;]+)")
 WORD = re.compile(r"(?<![\w.'])[^\W\d][\w']*(?:-[\w']+)*")
 USE = re.compile(r"(?:pub )?use ([\w.«»'-]+?)(?:\.\{([^}]*)\})?(?: as (\w+))?$")
-ERROR = re.compile(r"^(?:note: )?\S*\bproofs/((H\d+_)\w+)\.antt: ?(\d+):\d+: (?!warning: )", re.M)
+ERROR = re.compile(r"^(?:note: )?\S*\bproofs/(H\d+_\w+)\.antt: ?(\d+):\d+: (?!warning: )", re.M)
+VERDICT = re.compile(r"^(?:logic|holes)=", re.M)
 
 LISTS = "*/must-fail/definitions.md"
 FORM = re.compile(r"([\w-]+)\n\n```\nfile: (specs/\S+)\n((?:old: .+\nnew:.*\n)+)refused by: (\S+)\n```\n+")
@@ -57,15 +58,8 @@ def changes_of(crate):
 class Block:
     """A declaration of a file, or a whole `module _` with all that it declares: its lines and their numbers."""
 
-    def __init__(self, file):
-        self.file, self.lines, self.numbers = file, [], []
-
-    def add(self, number, line):
-        self.numbers.append(number)
-        self.lines.append(line)
-
-    def is_section(self):
-        return self.lines[0].startswith("module ")
+    def __init__(self, file, number, line):
+        self.file, self.lines, self.numbers, self.name = file, [line], [number], declared_name(line)
 
     def is_example(self):
         return not re.match(r"(pub )?(abbrev|module|record|data|unfoldable)\b", self.lines[0])
@@ -73,11 +67,9 @@ class Block:
     def text(self):
         return "\n".join(self.lines)
 
-    def words(self):
-        return set(WORD.findall(uncommented(self.text())))
 
-    def first_name(self):
-        return declared_name(self.lines[0])
+def words_of(text):
+    return set(WORD.findall(uncommented(text)))
 
 
 def declared_name(line):
@@ -104,20 +96,17 @@ class File:
         current = None
         for number, line in enumerate(lines, 1):
             used = USE.match(line)
-            if line.startswith("--"):
-                current = None
-            elif used:
-                self.uses.append(used.groups())
+            if line.startswith("--") or used:
+                self.uses += [used.groups()] if used else []
                 current = None
             elif re.match(r"(pub )?mod ", line) or not line.strip():
                 continue
-            elif current and (line[0] in " })]" or line.startswith("unfolding ")
-                              or declared_name(line) == declared_name(current.lines[0])):
-                current.add(number, line)
+            elif current and (line[0] in " })]" or line.startswith("unfolding ") or declared_name(line) == current.name):
+                current.lines.append(line)
+                current.numbers.append(number)
             else:
-                current = Block(self)
+                current = Block(self, number, line)
                 self.blocks.append(current)
-                current.add(number, line)
 
 
 class Crate:
@@ -125,11 +114,10 @@ class Crate:
 
     def __init__(self, name):
         self.name = name
-        folder = CRATES / name
-        self.examples = [File(path) for path in example_files()[name]]
-        paths = [*sorted(folder.glob("specs/**/*.antt")), *sorted(folder.glob("proofs/*.antt"))]
-        tested = [file.path for file in self.examples]
-        files = [*(File(path) for path in paths if path not in tested), *self.examples]
+        paths, folder = example_files()[name], CRATES / name
+        self.examples = list(map(File, paths))
+        others = [*sorted(folder.glob("specs/**/*.antt")), *sorted(folder.glob("proofs/*.antt"))]
+        files = [*(File(path) for path in others if path not in paths), *self.examples]
         self.files = {file.module: file for file in files}
         self.speaks = {block: self.spoken_of(block) for file in files for block in file.blocks}
         self.known = {}
@@ -139,9 +127,8 @@ class Crate:
         return next((file.owner[name] for file in self.examples if name in file.owner), None)
 
     def spoken_of(self, block):
-        found = set()
-        for word in block.words():
-            file = block.file
+        found, file = set(), block.file
+        for word in words_of(block.text()):
             module, name = (file.module, word) if word in file.owner else file.imported.get(word, (None, None))
             if module in self.files and name in self.files[module].owner:
                 found.add(self.files[module].owner[name])
@@ -180,7 +167,7 @@ class Copy:
     def uses(self, file, kept):
         """Returns the `use` lines of the copy of a file. Copied names come from the copies, all others from their
         original place, except unused types, which may be private to the crate."""
-        out, words = [], set().union(*(WORD.findall(uncommented(self.text_of(block))) for block in kept))
+        out, words = [], set().union(*(words_of(self.text_of(block)) for block in kept))
         is_changed = self.new_uses is not None and any(block in self.texts for block in kept)
         for module, items, alias in self.new_uses if is_changed else file.uses:
             if items is None:
@@ -212,7 +199,7 @@ class Copy:
             lines = self.uses(file, kept)
             for block in kept:
                 body = self.text_of(block).split("\n")
-                if not block.is_section():
+                if not body[0].startswith("module "):
                     body[0] = re.sub(r"^(?!(?:\w+ )*pub )((?:abbrev |unfoldable )?)", r"\1pub ", body[0])
                 lines += ["", *body]
             yield self.name_of(file), "\n".join(lines) + "\n", kept
@@ -235,53 +222,32 @@ class Scratch:
             (self.folder / part).mkdir(parents=True)
         (self.folder / "src/lib.rt").write_text(ROOT)
 
-    def tried(self, copies, check):
+    def tried(self, copies, is_gate, seconds):
         """Returns for each copy the blocks that the prover refuses, with None for an error elsewhere; returns None if
-        the check doesn't end. check: runs the prover on the crate of copies and returns its output, or None."""
+        there is no verdict after `seconds` of processor time. ./test only checks the crate of copies, based on the
+        libraries that `rt ci` just built; the check for a developer is based on what earlier checks kept in out/."""
         written = {}
         for copy in copies:
             for name, text, blocks in copy.files():
                 written[name] = (copy, blocks)
                 self.file(name).write_text(text)
-        self.list_files()
-        printed = check(self)
-        refused = None if printed is None else self.refused_in(printed, written)
-        for file in self.files():
-            file.unlink()
+        (self.folder / "proofs/Lib.antt").write_text("".join(f"pub mod {name}\n" for name in sorted(written)))
+        printed = (said_of(COPIES, self.named, self.folder, seconds=seconds) if is_gate else
+                   said_by(["rt", "check", "--jobs", "1", "--allow-holes"], self.folder, seconds))
+        refused = self.refused_in(printed, written) if VERDICT.search(printed) else None
+        for name in written:
+            self.file(name).unlink()
         return refused
 
     def refused_in(self, printed, written):
         """Returns the blocks of each copy that have the printed errors. There is an empty line before each block of a
         file."""
         refused = collections.defaultdict(set)
-        for name, _, line in ERROR.findall(printed):
+        for name, line in ERROR.findall(printed):
             copy, blocks = written[name]
-            before = self.file(name).read_text().split("\n")[: int(line)].count("") if self.file(name).exists() else 0
+            before = self.file(name).read_text().split("\n")[: int(line)].count("")
             refused[copy].add(blocks[before - 1] if 0 < before <= len(blocks) else None)
         return refused
 
     def file(self, name):
         return self.folder / f"proofs/{name}.antt"
-
-    def files(self):
-        return self.folder.glob("proofs/H*.antt")
-
-    def list_files(self):
-        (self.folder / "proofs/Lib.antt").write_text("".join(f"pub mod {file.stem}\n" for file in sorted(self.files())))
-
-
-def by_check(seconds):
-    """Returns the check for a developer, based on what earlier checks kept in out/. It returns None if there is no
-    verdict after `seconds` of processor time."""
-    words = ["rt", "check", "--jobs", "1", "--allow-holes"]
-    return lambda scratch: with_verdict(said_by(words, scratch.folder, seconds))
-
-
-def by_gate(seconds):
-    """Returns the check for ./test: it only checks the crate of copies, based on the libraries that `rt ci` just
-    built."""
-    return lambda scratch: with_verdict(said_of(COPIES, scratch.named, scratch.folder, seconds=seconds))
-
-
-def with_verdict(printed):
-    return printed if re.search(r"^(?:logic|holes)=", printed, re.M) else None

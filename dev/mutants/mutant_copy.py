@@ -6,6 +6,7 @@ further mutants of one function are functions of their own in the copy, each wit
 without a mutant waits forever, and its proof is a hole: the prover takes it by its contract. It stays whole only if
 others see more of it than its contract, if its proof is for several functions, or if another proof cites a part of its
 proof."""
+import itertools
 import re
 import shutil
 
@@ -155,8 +156,8 @@ def without_answer(part, goal):
         return part
     first, *lines = part.split("\n")
     own = (" ", ")", "]", "}", f"{found[1]} ", "unfolding ")
-    rest = next((number for number, line in enumerate(lines) if line and not line.startswith(own)), len(lines))
-    return "\n".join([first, f"{found[1]} = ?", "", *lines[rest:]]) + "\n"
+    rest = itertools.dropwhile(lambda line: not line or line.startswith(own), lines)
+    return "\n".join([first, f"{found[1]} = ?", "", *rest]) + "\n"
 
 
 def ask(crate, folder, function, goal=None):

@@ -16,6 +16,7 @@ each in the place of the prover's function:
 method; without a line `in:` it is outside all functions exactly once. So other functions may have the same text."""
 import ast
 import functools
+import itertools
 import re
 from typing import NamedTuple
 
@@ -42,36 +43,30 @@ class Mutant(NamedTuple):
     def changed(self, text):
         """Returns the text of its file with its change."""
         spans = functions(self.file, text)
-        if self.function and self.function not in [name for name, _, _ in spans]:
+        own = [(start, end) for name, start, end in spans if name == self.function]
+        if self.function and not own:
             raise BadMutant(f"{self.name}: {self.file} has no function {self.function}")
-        places = [found.start() for found in re.finditer(f"(?={re.escape(self.old)})", text)
-                  if self.is_place(spans, found.start())]
+        places = [found.start() for found in re.finditer(f"(?={re.escape(self.old)})", text)]
+        if self.function:
+            places = [at for at in places if any(start <= at and at + len(self.old) <= end for start, end in own)]
+        else:
+            places = [at for at in places if not any(start <= at < end for _, start, end in spans)]
         if len(places) != 1:
             where = self.function or f"{self.file}, outside its functions,"
             raise BadMutant(f"{self.name}: the 'old:' text is in {where} {len(places)} times, and not once")
         return text[: places[0]] + self.new + text[places[0] + len(self.old):]
 
-    def is_place(self, spans, at):
-        """Returns true if a text at this place is one that the mutant may change."""
-        if self.function:
-            return any(start <= at and at + len(self.old) <= end for name, start, end in spans if name == self.function)
-        return not any(start <= at < end for _, start, end in spans)
-
 
 def offsets(text):
     """Returns where each line begins, and the text's size."""
-    found = [0]
-    for line in text.splitlines(keepends=True):
-        found.append(found[-1] + len(line))
-    return found
+    return list(itertools.accumulate(map(len, text.splitlines(keepends=True)), initial=0))
 
 
 def python_functions(text):
     """Returns the functions of a module and the methods of its classes."""
-    starts, found = offsets(text), []
-    tree = ast.parse(text)
-    for owner in [tree, *(one for one in tree.body if isinstance(one, ast.ClassDef))]:
-        prefix = f"{owner.name}." if isinstance(owner, ast.ClassDef) else ""
+    starts, found, tree = offsets(text), [], ast.parse(text)
+    owners = [("", tree), *((f"{one.name}.", one) for one in tree.body if isinstance(one, ast.ClassDef))]
+    for prefix, owner in owners:
         for one in owner.body:
             if isinstance(one, (ast.FunctionDef, ast.AsyncFunctionDef)):
                 first = min([one.lineno, *(decorator.lineno for decorator in one.decorator_list)])

@@ -35,33 +35,30 @@ def imports(text):
     """Returns what each word of a file denotes: a name of a module, or (without a name) the module itself."""
     found = {}
     for module, items, alias in IMPORT.findall(text):
-        if items:
-            for item in items.split(","):
-                name, _, other = item.strip().partition(" as ")
-                if name:
-                    found[other or name] = (module, name)
-        else:
+        if not items:
             found[alias or module.rpartition(".")[2]] = (module, None)
+        for item in items.split(","):
+            name, _, other = item.strip().partition(" as ")
+            if name:
+                found[other or name] = (module, name)
     return found
 
 
 @functools.cache
 def spec_module(module):
     """Returns the definitions of a module of specs/ by name, and what its other words denote; None for modules of the kit."""
-    match = re.fullmatch(r"Rattle\.(\w+)\.(?:specs|proofs)\.(.+)", module)
+    match = re.fullmatch(r"Rattle\.(\w+)\.(specs|proofs)\.(.+)", module)
     if not match:
         return None
-    kind = module.split(".")[2]
-    file = CRATES / match[1] / kind / (match[2].replace(".", "/") + ".antt")
-    if not file.exists():
-        return None
-    return parse_module(module, file), imports(file.read_text())
+    file = CRATES / match[1] / match[2] / (match[3].replace(".", "/") + ".antt")
+    return (parse_module(module, file), imports(file.read_text())) if file.exists() else None
 
 
 def parse_module(module, file, text=None):
     """Returns the definitions of a file, or of another text of it, by name. A definition has the lines of all its cases."""
     found, last = {}, None
-    for number, comment, lines, margin, context in items_of((file.read_text() if text is None else text).split("\n")):
+    text = file.read_text() if text is None else text
+    for number, comment, lines, margin, context in items_of(text.split("\n")):
         head = lines[0].strip()
         if re.match(r"(pub )?(use|mod|open)\b", head):
             last = None
@@ -163,12 +160,10 @@ def rust_words(definition):
 @functools.cache
 def rust_named(file, word):
     """Returns the type of the repository that a word of a source file names, in a list that is empty if there is none."""
-    if any(is_type(item, word) for item in source(file).items):
-        found = rust_type(crate_of(file), word)
-    else:
-        crate, _, rest = source(file).uses.get(word, "").partition("::")
-        crate = crate_of(file) if crate == "crate" else crate
-        found = crate in needs() and rust_type(crate, rest.rpartition("::")[2])
+    is_own = any(is_type(item, word) for item in source(file).items)
+    crate, _, rest = ("crate", "", word) if is_own else source(file).uses.get(word, "").partition("::")
+    crate = crate_of(file) if crate == "crate" else crate
+    found = crate in needs() and rust_type(crate, rest.rpartition("::")[2])
     return [found] if found else []
 
 
@@ -176,13 +171,8 @@ def resolved(module, name):
     """Yields the definition that a name of a module denotes, or (module, name) if it belongs to the kit's library."""
     declared = re.fullmatch(r"Rattle\.(\w+)\.specs\.declared\.(.+)", module)
     if declared and (CRATES / declared[1]).is_dir():
-        parts = declared[2].split(".")
-        if parts[-1] in ("TheVariants", "TheInside"):
-            named = parts[-2]
-        elif parts[-1] == "TheConstants":
-            named = name
-        else:
-            named = parts[-1]
+        *_, outer, last = ["", *declared[2].split(".")]
+        named = {"TheVariants": outer, "TheInside": outer, "TheConstants": name}.get(last, last)
         found = rust_type(declared[1], named)
         if not found:
             sys.exit(f"dev/statements/definition_reader.py: no type {named} in {declared[1]}")
@@ -193,45 +183,41 @@ def resolved(module, name):
         yield (module, name)
         return
     definitions, used = ours
-    if name in definitions:
-        yield definitions[name]
-        return
-    for definition in definitions.values():
-        if name in constructors(definition):
-            yield definition
-            return
-    if name in used:
+    own = definitions.get(name) or maker_of(name, definitions)
+    if own:
+        yield own
+    elif name in used:
         yield from resolved(*used[name])
-        return
-    sys.exit(f"dev/statements/definition_reader.py: no {name} in {module}")
+    else:
+        sys.exit(f"dev/statements/definition_reader.py: no {name} in {module}")
+
+
+def maker_of(name, definitions):
+    """Returns which of these definitions has the constructor of this name, or None."""
+    return next((one for one in definitions.values() if name in constructors(one)), None)
 
 
 def words_of(text, local, used):
     """Yields what the words of a term denote: definitions of the repository, and (module, name) for the kit's library. A
     variable with the name of a definition counts as that definition: the page may have one too many, but misses none."""
     text = uncommented(text)
-    tokens = [(match[1], match[2], match[4], match.start(), match.end()) for match in WORD.finditer(text)]
-    seen = {token[1] for token in tokens if token[1]} | {token[2] for token in tokens if token[2]}
-    for dot, word, sign, start, end in tokens:
-        if sign or not word:
+    tokens = [(*match.group(1, 2, 4), *match.span()) for match in WORD.finditer(text)]
+    seen = {one for _, word, sign, _, _ in tokens for one in (word, sign)}
+    for dot, word, _, start, end in tokens:
+        if not word:
             continue
         is_projection = dot and start and re.match(r"[\w')\]⟧]", text[start - 1])
         is_field = re.search(r"\bpub $", text[:start]) or (
             re.match(r"\s*=(?!=)", text[end:]) and re.search(r"(?:[{;]\s*|\n\s+)$", text[:start + len(dot)]))
         if is_projection or is_field:
             continue
-        if word in local:
-            yield local[word]
-        elif (maker := next((d for d in local.values() if word in constructors(d)), None)):
-            yield maker
+        if own := local.get(word) or maker_of(word, local):
+            yield own
         elif word in used:
             target, name = used[word]
-            if name is None:
-                follows = re.match(r"\.([^\W\d][\w'?]*)", text[end:])
-                if follows:
-                    yield from resolved(target, follows[1])
-            else:
-                yield from resolved(target, name)
+            follows = re.match(r"\.([^\W\d][\w'?]*)", text[end:])
+            if name or follows:
+                yield from resolved(target, name or follows[1])
     for name, (target, item) in used.items():
         if item and "◌" in item and set(part for part in item.split("◌") if part) <= seen:
             yield (target, item)
@@ -242,20 +228,16 @@ def rests_on(definition):
     """Returns what the definition uses: definitions of the repository, and (module, name) for the kit's library."""
     if definition.file.suffix == ".rt":
         return unique(rust_words(definition), definition)
-    module = definition.key.rpartition(".")[0]
-    local, used = spec_module(module)
-    text = "\n".join(definition.lines) + "\n" + "\n".join(definition.context)
-    return unique(words_of(text, local, used), definition)
+    text = "\n".join([*definition.lines, *definition.context])
+    return unique(words_of(text, *spec_module(definition.key.rpartition(".")[0])), definition)
 
 
 def unique(found, but=None):
-    seen, kept = set(), []
+    """Returns each of these definitions and words once, without this definition."""
+    kept = {}
     for one in found:
-        key = one.key if isinstance(one, Definition) else one
-        if key not in seen and not (but and key == but.key):
-            seen.add(key)
-            kept.append(one)
-    return kept
+        kept.setdefault(one.key if isinstance(one, Definition) else one, one)
+    return [one for key, one in kept.items() if not (but and key == but.key)]
 
 
 @functools.cache

@@ -4,6 +4,7 @@
 - What is broken in the sources, but fits into a line, is joined. Short cases and fields share a line.
 - Clauses are printed as the sources have them.
 - A comment of one line is printed after a field, a case of an `enum`, a definition or its head, if both fit into a line."""
+import itertools
 import re
 
 WIDTH = 120
@@ -118,17 +119,11 @@ def record_lines(lines):
     end = next((at for at, line in enumerate(lines) if line.rstrip().endswith(" where")), None)
     if end is None:
         return lines
-    head = joined(lines[:end + 1]).replace(" : Type 0 where", " where")
     blocks = blocks_of([KEYWORDS.sub(r"\1", line) for line in lines[end + 1:]], 2)
-    out, waiting, has_comments = broken(head), [], False
-    for block in [*blocks, None]:
-        if block and not block[0].strip().startswith("--"):
-            waiting.append(broken(joined(block), "  ", "      "))
-            continue
-        out += packed(waiting)
-        waiting = []
-        out += block or []
-        has_comments |= bool(block)
+    out, has_comments = broken(joined(lines[:end + 1]).replace(" : Type 0 where", " where")), False
+    for is_comment, group in itertools.groupby(blocks, lambda block: block[0].strip().startswith("--")):
+        has_comments |= is_comment
+        out += sum(group, []) if is_comment else packed(broken(joined(block), "  ", "      ") for block in group)
     whole = " ".join(line.strip() for line in out)
     return [whole] if len(out) == 2 and len(whole) <= WIDTH and not has_comments else out
 

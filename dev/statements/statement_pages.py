@@ -48,6 +48,10 @@ PAGES = [Page(**{**page, "chapters": [Chapter(**one) for one in page["chapters"]
 PLAIN = {"Bool", "Err", "List", "None", "Ok", "Option", "Result", "Some", "false", "true", "none", "some", "ℕ"}
 
 
+def end(said):
+    sys.exit(f"dev/statements/statement: {said}")
+
+
 # A field of a struct, on one line.
 FIELD = re.compile(r"\s*(?:pub(?:\(\w+\))? )?(\w+):")
 
@@ -62,7 +66,7 @@ class Tie:
         if item.kind == "struct":
             parts = {field[1]: [line] for line in item.lines if (field := FIELD.match(line))}
         if missing := set(members) - set(parts):
-            sys.exit(f"dev/statements/statement: {head}: no " + ", ".join(sorted(missing)))
+            end(f"{head}: no " + ", ".join(sorted(missing)))
         kept = [line for name in members for line in parts[name]]
         self.lines = [item.lines[0], *kept, "}"]
 
@@ -72,9 +76,9 @@ class Tie:
 
     def rests_on(self):
         ghosts, text = imports(source(self.file).text), "\n".join(self.lines[1:-1])
-        found, head = list(words_of(text, {}, ghosts)), self.lines[0] if self.lines[0].startswith("impl") else ""
-        for word in re.findall(r"(?<![\w.])[A-Z]\w*", head + text):
-            found += [] if word in ghosts else rust_named(self.file, word)
+        head = self.lines[0] if self.lines[0].startswith("impl") else ""
+        rust = [word for word in re.findall(r"(?<![\w.])[A-Z]\w*", head + text) if word not in ghosts]
+        found = [*words_of(text, {}, ghosts), *(one for word in rust for one in rust_named(self.file, word))]
         return [one for one in unique(found) if isinstance(one, Definition)]
 
 
@@ -85,17 +89,17 @@ class Clause:
         path, _, label = said.partition(".")
         parts = path.split("::")
         if len(parts) < 3 or parts[0] not in all_crates():
-            sys.exit(f"dev/statements/statement: {said}: not CRATE::MODULE::FUNCTION or CRATE::TYPE::FUNCTION")
+            end(f"{said}: not CRATE::MODULE::FUNCTION or CRATE::TYPE::FUNCTION")
         function = public_function(parts[0], *parts[-2:])
         if not function:
-            sys.exit(f"dev/statements/statement: no public function {said}")
+            end(f"no public function {said}")
         self.name, self.owner = said, parts[-2]
         self.file, self.comment = function.file, function.comment()
         self.head, self.clauses = parts_of_contract(function, function.owner)
         if label:
             self.clauses = [one for one in self.clauses if re.match(rf"\s*(requires\b|ensures\*? {label}\b)", one[0])]
             if not any("ensures" in clause[0] for clause in self.clauses):
-                sys.exit(f"dev/statements/statement: {said}: no such label")
+                end(f"{said}: no such label")
 
     def shown(self):
         """Returns its lines in a fence."""
@@ -105,15 +109,11 @@ class Clause:
         ghosts = imports(source(self.file).text)
         terms = "\n".join(re.sub(r"^\s*(requires|ensures)\*?( \w+)? \{", "{", "\n".join(clause))
                           for clause in self.clauses)
-        found = list(words_of(terms, {}, ghosts))
-        head = "\n".join(self.head)
+        head, modeled = "\n".join(self.head), " ".join(re.findall(r"⟦(.*?)⟧", terms, re.S))
         rust = re.findall(r"[A-Z]\w*", head) + [self.owner] * bool(re.search(r"\bself\b", head))
-        for term in re.findall(r"⟦(.*?)⟧", terms, re.S):
-            rust += re.findall(r"[A-Z]\w*", term)
+        rust += re.findall(r"[A-Z]\w*", modeled)
         rust += [word for word in re.findall(r"(?<![\w.])[A-Z]\w*", terms) if word not in ghosts]
-        for word in rust:
-            found += rust_named(self.file, word)
-        return unique(found)
+        return unique([*words_of(terms, {}, ghosts), *(one for word in rust for one in rust_named(self.file, word))])
 
 
 # The words before `fn` that the clauses of a page have in common.
@@ -149,18 +149,15 @@ def in_order(speakers, known, brief=()):
     count."""
     order, library, visited = [], {}, set()
 
-    def visit(definition):
-        visited.add(definition.key)
-        if definition.key not in brief:
-            look_at(definition)
-        order.append(definition)
-
     def look_at(speaker):
         for one in reversed(speaks_of(speaker)):
             if not isinstance(one, Definition):
                 library.setdefault(one[0], set()).add(one[1])
             elif one.key not in visited:
-                visit(one)
+                visited.add(one.key)
+                if one.key not in brief:
+                    look_at(one)
+                order.append(one)
 
     for speaker in reversed(speakers):
         look_at(speaker)
@@ -255,23 +252,15 @@ def wrapped(prose, margin="", width=120):
     return textwrap.wrap(prose, width, subsequent_indent=margin, break_long_words=False, break_on_hyphens=False)
 
 
-def named(definitions):
-    return ", ".join(f"`{one.name}`" for one in definitions)
-
-
 class Written:
     """What is written so far: the page of each definition, and the kit's words of each page."""
 
     def __init__(self, page=None):
-        self.page, self.home, self.library = page, {}, {}
-        self.definitions = self.lines = 0
+        self.home = {}
+        self.turn_to(page)
 
     def turn_to(self, page):
         self.page, self.library, self.definitions, self.lines = page, {}, 0, 0
-
-    def has(self, definition, brief):
-        self.home[definition.key] = None if definition.key in brief else self.page
-        self.counts(1, 1 if definition.key in brief else count(definition))
 
     def counts(self, definitions, lines):
         self.definitions += definitions
@@ -283,8 +272,8 @@ def from_others(old, spoken_of, written):
     pages = {}
     for one in old:
         if one.key in spoken_of:
-            pages.setdefault(written.home[one.key] or written.page, []).append(one)
-    said = [f"from [{page.title}]({page.name}): {named(definitions)}" for page, definitions in pages.items()
+            pages.setdefault(written.home[one.key] or written.page, []).append(f"`{one.name}`")
+    said = [f"from [{page.title}]({page.name}): {', '.join(names)}" for page, names in pages.items()
             if page is not written.page]
     whole = "; ".join(said)
     return ["", *wrapped(f"{whole[0].upper()}{whole[1:]}, and what these rest on.")] if said else []
@@ -296,12 +285,13 @@ def definitions_of(speakers, written, brief):
     new = by_file(new, brief)
     bare = [one.key for one in new if not one.comment]
     if bare:
-        sys.exit("dev/statements/statement: no comment says what this is: " + ", ".join(bare))
+        end("no comment says what this is: " + ", ".join(bare))
     spoken_of = {one.key for speaker in speakers + new for one in speaks_of(speaker) if isinstance(one, Definition)}
     out = from_others(old, spoken_of, written)
     out += fenced("agda", below_crates("--", new, lambda definition: shown(definition, brief)))
-    for definition in new:
-        written.has(definition, brief)
+    for one in new:
+        written.home[one.key] = None if one.key in brief else written.page
+        written.counts(1, 1 if one.key in brief else count(one))
     for module, names in words.items():
         written.library.setdefault(module, set()).update(names)
     return out
@@ -327,14 +317,27 @@ def chapter(one, written):
 def lines_in_all(one):
     """How many lines a chapter's clauses and ties rest on, wherever they are printed, and those of the toolchain."""
     rest, _, _ = in_order(speakers_of(one), (), BRIEF)
-    of_toolchain = [part for said in one.kit for parts in kit_parts(**said) for part in parts]
+    of_toolchain = sum((types + terms for said in one.kit for types, terms in [kit_parts(**said)]), [])
     return sum(1 if part.key in BRIEF else count(part) for part in rest) + sum(map(count, of_toolchain))
 
 
+def kit_items(tables, found_in):
+    """Returns what these tables name, files with names of each; `found_in` returns what a file of the toolchain has."""
+    return [found_in(file, prover.kit() / "rattle" / file)[name] for file, names in tables.items() for name in names]
+
+
+def kit_types(file, path):
+    return {item.name: type_of(file.partition("/")[0], item) for item in source(path).items
+            if item.kind in ("struct", "trait")}
+
+
+def kit_functions(_, path):
+    return {one.name: one for one in source(path).functions if one.is_pub}
+
+
 def kit_parts(types, definitions, **_):
-    """The types and the definitions that a chapter takes from the toolchain: tables of files with names of each."""
-    return ([one for file, names in types.items() for one in kit_types(file, names)],
-            [one for file, names in definitions.items() for one in kit_definitions(file, names)])
+    """Returns the types and the definitions that a chapter takes from the toolchain."""
+    return kit_items(types, kit_types), kit_items(definitions, parse_module)
 
 
 def of_kit(said, types, functions, definitions, written):
@@ -342,9 +345,9 @@ def of_kit(said, types, functions, definitions, written):
     Each table has files, with the names to show from each."""
     kinds, terms = kit_parts(types, definitions)
     written.counts(len(kinds + terms), sum(map(count, kinds + terms)))
-    calls = [call for file, names in functions.items() for call in kit_functions(file, names)]
-    code = [*below_crates("//", kinds, shown_of_kit), *below_crates("//", calls, shown_function)]
-    return ["", *wrapped(said), *fenced("rust", code), *fenced("agda", below_crates("--", terms, shown_of_kit))]
+    calls = below_crates("//", kit_items(functions, kit_functions), shown_function)
+    return ["", *wrapped(said), *fenced("rust", below_crates("//", kinds, shown_of_kit) + calls),
+            *fenced("agda", below_crates("--", terms, shown_of_kit))]
 
 
 def shown_of_kit(definition):
@@ -357,27 +360,12 @@ def shown_function(function):
     return contract_lines(*parts_of_contract(function), commented("///", function.comment()))
 
 
-def kit_definitions(file, names):
-    found = parse_module(file, prover.kit() / "rattle" / file)
-    return [found[name] for name in names]
-
-
-def kit_types(file, names):
-    items = {item.name: item for item in source(prover.kit() / "rattle" / file).items if item.kind in ("struct", "trait")}
-    return [type_of(file.partition("/")[0], items[name]) for name in names]
-
-
-def kit_functions(file, names):
-    found = {one.name: one for one in source(prover.kit() / "rattle" / file).functions if one.is_pub}
-    return [found[name] for name in names]
-
-
 def check_words(written):
     """Ends with a fault if a page uses a word of the kit that its table of words lacks, and that isn't Rust's."""
     told = {word for words in KIT for word in re.findall(r"[^\W\d][\w?]*", words)}
     used = {name for names in written.library.values() for name in names if name and "◌" not in name}
     if missing := used - told - PLAIN:
-        sys.exit("dev/statements/statement: statement_pages.toml has no meaning for: " + ", ".join(sorted(missing)))
+        end("statement_pages.toml has no meaning for: " + ", ".join(sorted(missing)))
 
 
 def signs_page():
@@ -391,13 +379,6 @@ def signs_page():
 
 def rows(table):
     return [f"| {word} | {said} |" for word, said in table.items()]
-
-
-def head_of(page, table, written):
-    return [f"# {page.title}", "", *wrapped(
-        f"{page.said} To judge the clauses, read them and the definitions below them, on this page {written.lines} lines in "
-        f"{written.definitions} definitions and types. [{SIGNS['title']}]({SIGNS['file']}) explains their form and signs."), "",
-        "| Chapter | New definitions | Their lines | Lines in all |", "|---|---|---|---|", *table]
 
 
 def anchor(title):
@@ -414,7 +395,11 @@ def statement_page(page, written):
         counts = f"{written.definitions - definitions} | {written.lines - lines} | {lines_in_all(one)}"
         table.append(f"| [{one.title}](#{anchor(one.title)}) | {counts} |")
     check_words(written)
-    return page_text(head_of(page, table, written) + body)
+    said = (f"{page.said} To judge the clauses, read them and the definitions below them, on this page {written.lines} "
+            f"lines in {written.definitions} definitions and types. [{SIGNS['title']}]({SIGNS['file']}) explains their "
+            "form and signs.")
+    return page_text([f"# {page.title}", "", *wrapped(said), "",
+                      "| Chapter | New definitions | Their lines | Lines in all |", "|---|---|---|---|", *table, *body])
 
 
 def page_text(lines):
@@ -464,10 +449,12 @@ def page_file(name):
 
 
 def of_clauses(said):
-    """Returns the lines of any clauses and of what they rest on, and the numbers of these definitions and of their lines."""
+    """Returns the lines of any clauses and of what they rest on, and the numbers of these definitions and of their
+    lines."""
     speakers, written = [Clause(one) for one in said], Written(PAGES[0])
-    out = fenced("rust", below_crates("//", speakers, lambda one: one.shown())) + definitions_of(speakers, written, BRIEF)
-    library = [f"- `{module}`: " + ", ".join(f"`{name}`" for name in sorted(name for name in names if name))
+    out = fenced("rust", below_crates("//", speakers, lambda one: one.shown()))
+    out += definitions_of(speakers, written, BRIEF)
+    library = [f"- `{module}`: " + ", ".join(f"`{name}`" for name in sorted(filter(None, names)))
                for module, names in sorted(written.library.items())]
     return [*out, "", "Words of the kit's library:", "", *library], written.definitions, written.lines
 
@@ -479,7 +466,8 @@ def print_clauses(said):
 
 
 def whole_promise():
-    """Returns the text of the page that prints one clause with all that it rests on, with these lines and their numbers."""
+    """Returns the text of the page that prints one clause with all that it rests on, with these lines and their
+    numbers."""
     lines, definitions, count_of_lines = of_clauses([WHOLE["clause"]])
     head, _, rest = page_file(WHOLE["file"]).read_text().partition("```rust\n")
     head = re.sub(r"\d+ definitions of \d+ lines", f"{definitions} definitions of {count_of_lines} lines", head)

@@ -1,6 +1,5 @@
 """What dev/mutants/definitions says of each change of a definition, by a stub of the prover (dev/tests/kept_repository.py)."""
 import re
-import unittest
 
 from dev.tests.kept_repository import KeptTest
 
@@ -91,7 +90,3 @@ class Definitions(KeptTest):
         errors = f"if {IS_FIRST} && {IS_SECOND}; then exit; fi; {AT}{REFUSED.format('*[02468]')}"
         for calls in (3, 0):
             self.assertEqual(self.tried(listed(TWO), errors), (0, dict.fromkeys(TWO, CHANGES["refused"][3]), "2 passed, 0 failed", calls))
-
-
-if __name__ == "__main__":
-    unittest.main()

@@ -1,15 +1,12 @@
 """Tests of dev/mutants/mutants on mutants of a small crate: its verdict on each. Among them are equivalent ones, by an
 answer and by a named goal, one that can't be read and is in a round with another, and one whose function calls another
 that is refused in the same round. A proof that names what a mutant took away doesn't refuse it, even if the prover
-breaks the line that says so. The kept verdict on a refused mutant is forgotten if a text changes that the verdict can
-depend on, and only then. No listed mutant depends on the text of another function, and no public clause is without a
-page, a mutant or a caller."""
+breaks the line that says so. No listed mutant depends on the text of another function, and no public clause is without
+a page, a mutant or a caller. dev/tests/test_kept.py is about kept verdicts."""
 import functools
 import os
 import pathlib
 import re
-import shutil
-import sys
 import tempfile
 import threading
 from importlib.machinery import SourceFileLoader
@@ -17,7 +14,7 @@ from importlib.util import module_from_spec, spec_from_loader
 from unittest import mock
 
 from dev.crates import CRATES, TOP, all_crates
-from dev.mutants.mutant_lists import BadMutant, listing_crates, mutants_of
+from dev.mutants.mutant_lists import listing_crates, mutants_of
 from dev.rust_sources import Source
 from dev.statements import clauses
 from dev.testing import TestCase, call, needs_command
@@ -133,32 +130,28 @@ twice-requires c = omega (arith, c.twice-once.ensures, c.requires)
 pub returns : goal.returns
 returns c = rw c.twice-once.ensures at c.twice.ensures
 """
+REFUSED, OLD = "refused, as it must be: ", "BAD MUTANT: an 'old:' text is in"
+GONE = "BAD MUTANT: a proof names what it took away"
+BODY, HALF = "{⏎    n + n⏎}", "{⏎    n⏎}"
 # For each mutant: its old and new text, the function that has to refuse it, and the beginning of its line in the
 # output.
 MUTANTS = {
-    "answers-the-number": ("{⏎    n + n⏎}", "{⏎    n⏎}", "twice", "refused, as it must be: "),
-    "answers-the-number-by-its-goal": ("{⏎    n + n⏎}", "{⏎    n⏎}", "twice: returns", "refused, as it must be: "),
-    "calls-a-method-of-any-type": ("twice(one.count())", "2000 + one.count()", "twice_counted: returns",
-                                   "refused, as it must be: "),
-    "changes-another-function": ("twice(twice(n))", "twice(n)", "twice",
-                                 "BAD MUTANT: an 'old:' text is in twice 0 times"),
-    "four-times-given-up": ("twice(twice(n))", "twice(n)", "four_times", "refused, as it must be: "),
-    "has-no-function": ("{⏎    n + n⏎}", "{⏎    n⏎}", "thrice", "BAD MUTANT: an 'old:' text is in thrice 0 times"),
-    "in-a-method-of-the-same-name": ("        n + n⏎", "        n⏎", "Number::twice", "refused, as it must be: "),
-    "in-the-second-of-two-equal-texts": ("    n + n⏎", "    n⏎", "double", "refused, as it must be: "),
+    "answers-the-number": (BODY, HALF, "twice", REFUSED),
+    "answers-the-number-by-its-goal": (BODY, HALF, "twice: returns", REFUSED),
+    "calls-a-method-of-any-type": ("twice(one.count())", "2000 + one.count()", "twice_counted: returns", REFUSED),
+    "changes-another-function": ("twice(twice(n))", "twice(n)", "twice", f"{OLD} twice 0 times"),
+    "four-times-given-up": ("twice(twice(n))", "twice(n)", "four_times", REFUSED),
+    "has-no-function": (BODY, HALF, "thrice", f"{OLD} thrice 0 times"),
+    "in-a-method-of-the-same-name": ("        n + n⏎", "        n⏎", "Number::twice", REFUSED),
+    "in-the-second-of-two-equal-texts": ("    n + n⏎", "    n⏎", "double", REFUSED),
     "leaves-no-function": ("pub fn twice", "pub fn thrice", "twice", "BAD MUTANT: it leaves no function twice"),
-    "names-a-call-that-is-gone": ("let once = twice(n);⏎    twice(once)", "twice(n)", f"{LONG}: returns",
-                                  "BAD MUTANT: a proof names what it took away"),
-    "names-only-calls-that-are-there": ("    twice(once)", "    twice(n)", f"{LONG}: returns",
-                                        "refused, as it must be: "),
-    "outside-functions": ("LEAST: u64 = 1", "LEAST: u64 = 2", "Number::least",
-                          "BAD MUTANT: an 'old:' text is in Number::least 0 times"),
-    "refused-by-a-goal-that-is-gone": ("    twice(once)", "    once", f"{LONG}: twice-requires",
-                                       "BAD MUTANT: a proof names what it took away"),
+    "names-a-call-that-is-gone": ("let once = twice(n);⏎    twice(once)", "twice(n)", f"{LONG}: returns", GONE),
+    "names-only-calls-that-are-there": ("    twice(once)", "    twice(n)", f"{LONG}: returns", REFUSED),
+    "outside-functions": ("LEAST: u64 = 1", "LEAST: u64 = 2", "Number::least", f"{OLD} Number::least 0 times"),
+    "refused-by-a-goal-that-is-gone": ("    twice(once)", "    once", f"{LONG}: twice-requires", GONE),
     "right": ("twice(twice(n))", "twice(n) + twice(n)", "four_times", "NOT REFUSED in four_times"),
-    "right-by-its-goal": ("{⏎    n + n⏎}", "{⏎    let other = n; n + other⏎}", "twice: returns",
-                          "NOT REFUSED in twice"),
-    "standing-twice": ("n + n", "n", "twice", "BAD MUTANT: an 'old:' text is in twice 2 times"),
+    "right-by-its-goal": (BODY, "{⏎    let other = n; n + other⏎}", "twice: returns", "NOT REFUSED in twice"),
+    "standing-twice": ("n + n", "n", "twice", f"{OLD} twice 2 times"),
     "unreadable": ("    n + n⏎", "    n +⏎", "twice", "BAD MUTANT: the prover gave no verdict"),
 }
 # The one that is also tried during an `rt ci` that has proved the crate.
@@ -167,12 +160,11 @@ ALL_FAILED = f"\n0 passed, {len(MUTANTS)} failed\n"
 
 
 def write_small_crate(folder):
-    files = {"src/lib.rt": SOURCE, "proofs/four_times/Answers.antt": ANSWERS,
-             f"proofs/{LONG}/Answers.antt": LONG_ANSWERS}
     sections = [f"## {name}\n\n```\nfile: src/lib.rt\nold: {old}\nnew: {new}\nrefused in: {function}\n```\n"
                 for name, (old, new, function, _) in sorted(MUTANTS.items())]
-    files["must-fail/mutants.md"] = "\n".join(["# Mutants\n", *sections])
-    for name, text in files.items():
+    for name, text in {"src/lib.rt": SOURCE, "proofs/four_times/Answers.antt": ANSWERS,
+                       f"proofs/{LONG}/Answers.antt": LONG_ANSWERS,
+                       "must-fail/mutants.md": "\n".join(["# Mutants\n", *sections])}.items():
         (folder / name).parent.mkdir(parents=True, exist_ok=True)
         (folder / name).write_text(text)
 
@@ -219,65 +211,6 @@ class Verdicts(TestCase):
                          [f"mutant small/{LATE}: {tried()[1][LATE]}", "1 passed, 0 failed"])
 
 
-# Prints what is kept of two mutants of a crate, and keeps that the first was refused.
-KEEPS = """
-from dev.build.kept import Kept
-from dev.mutants.mutant_lists import mutants_of
-one, other, *_ = mutants_of("rt_cidr")
-kept = Kept("rt_cidr", [one, other])
-print("kept" if kept.said_of(one) else None, kept.said_of(other))
-kept.keep({one: (True, f"`{one.goal}` kept")})
-"""
-
-
-def changes(top):
-    """Yields changes of files under a kept verdict: a name, the file, its new text, and whether the verdict stays."""
-    cidr, mutant = top / "crates/rt_cidr", mutants_of("rt_cidr")[0]
-    own, name = cidr / mutant.file, mutant.function.rpartition("::")[2]
-    proofs = sorted((cidr / "proofs").rglob("*.antt"))
-    other = next(file for file in sorted((cidr / "src").rglob("*.rt")) if file != own)
-    yield "the source of the mutant", own, own.read_text() + "\n", False
-    yield "another source", other, other.read_text() + "\n", False
-    yield "a definition", next((cidr / "specs").rglob("*.antt")), "changed", False
-    yield "a file of lemmas", next(file for file in proofs if file.parent == cidr / "proofs"), "changed", False
-    yield "a proof of the function", next(file for file in proofs if name in file.parts), "changed", False
-    for said, file, old, new, stays in (
-            ("the mutant", cidr / "must-fail/mutants.md", "\nold: ", "\nold:  ", False),
-            ("another mutant", cidr / "must-fail/mutants.md", mutants_of("rt_cidr")[-1].section, "", True),
-            ("the crates below", top / "crates.txt", "rt_cidr:", "rt_cidr: std", False),
-            ("the script", top / "dev/mutants/mutants", "not proved|no proof", "not proved", False),
-            ("a page", top / "dev/statements/ACCESSES.md", "# ", "# More ", True)):
-        yield said, file, file.read_text().replace(old, new, 1), stays
-
-
-@needs_command("rt")
-class KeptVerdicts(TestCase):
-    """Changes after which a kept verdict is used, or not, in a copy of the files on which a verdict on rt_cidr
-    depends."""
-
-    def keeps(self):
-        ended = self.call(sys.executable, "-c", KEEPS, cwd=self.folder / "top",
-                          env=os.environ | {"XDG_CACHE_HOME": str(self.folder), "PYTHONDONTWRITEBYTECODE": "1"})
-        return ended.stdout.strip()
-
-    # Catches a verdict that is kept though something changed that it can depend on, or that is used for another mutant.
-    def test_changes_of_files(self):
-        top = self.folder / "top"
-        for folder in ("dev", "packaging"):
-            shutil.copytree(TOP / folder, top / folder, ignore=shutil.ignore_patterns("__pycache__"))
-        shutil.copytree(TOP / "crates/rt_cidr", top / "crates/rt_cidr", ignore=shutil.ignore_patterns("out"))
-        shutil.copy(TOP / "crates.txt", top)
-        self.assertEqual((self.keeps(), self.keeps()), ("None None", "kept None"))
-        for name, file, changed, stays in changes(top):
-            with self.subTest(name):
-                text = file.read_text()
-                self.assertNotEqual(changed, text)
-                file.write_text(changed)
-                self.assertEqual(self.keeps(), "kept None" if stays else "None None")
-                file.write_text(text)
-                self.assertEqual(self.keeps(), "kept None")
-
-
 class Lists(TestCase):
     """The lists of the crates."""
 
@@ -296,12 +229,9 @@ class Lists(TestCase):
         start = Source(None, text).offset(item.start)
         copy = "\n".join(item.written()).replace(f"fn {item.name}", f"fn {item.name}_again") + "\n"
         wanted = mutant.changed(text)
-        for both, changed in ((text[:start] + copy + text[start:], wanted[:start] + copy + wanted[start:]),
-                              (text + "\n" + copy, wanted + "\n" + copy)):
-            try:
-                self.assertEqual(mutant.changed(both), changed, mutant.name)
-            except BadMutant as fault:
-                self.fail(f"{mutant.name}: {fault}")
+        above = wanted[:start] + copy + wanted[start:]
+        self.assertEqual(mutant.changed(text[:start] + copy + text[start:]), above, mutant.name)
+        self.assertEqual(mutant.changed(text + "\n" + copy), wanted + "\n" + copy, mutant.name)
 
     def test_list_prints_each_name_once(self):
         for name in ("mutants", "definitions"):

@@ -1,5 +1,6 @@
 """Changes laws and pages in a copy of the repository: `dev/statements/statement --check` has to refuse each change that
 means something, and no other. Pages have each word of definitions, types, clauses and their comments."""
+import contextlib
 import re
 import shutil
 
@@ -14,23 +15,32 @@ LAWS = "crates/rt_rib/specs/Laws.antt"
 VIEWS = "crates/yarib_c/src/views.rt"
 WORDS = "dev/statements/statement_pages.toml"
 OF_SIZES = "result ≢ DONE → (blocks.new ≡ blocks.old) × (routers.new ≡ routers.old)"
-# Changes of one place, each refused since a page differs: a name, the file, the old and the new text, and the page.
+DIFFERS = "is not what dev/statements/statement --write would write"
+LIBRARIES, PROMISE = f"docs/STATEMENT-LIBRARIES.md {DIFFERS}", f"docs/LIBRARY-C.md {DIFFERS}"
+# Changes of one place, each refused: a name, the file, the old and the new text, and the end of the message.
 CHANGES = (
     ("equal journals only if one is empty", LAWS, "asked j ≡ asked k → j ≡ k", "asked j ≡ asked k → j ≡ [] → j ≡ k",
-     "STATEMENT-LIBRARIES"),
+     LIBRARIES),
     ("best routes suffice only in the empty table", LAWS, "IsTable table → look_up addr (best_routes table)",
-     "IsTable table → table ≡ [] → look_up addr (best_routes table)", "STATEMENT-LIBRARIES"),
+     "IsTable table → table ≡ [] → look_up addr (best_routes table)", LIBRARIES),
     ("the first match is the answer only in the empty table", LAWS, "× (slice_get (look_up_all addr table) 0",
-     "× (table ≡ [] → slice_get (look_up_all addr table) 0", "STATEMENT-LIBRARIES"),
+     "× (table ≡ [] → slice_get (look_up_all addr table) 0", LIBRARIES),
     ("a lock's table of another type", "crates/ya_lock/src/tree_lock.rt", "    pub(crate) table: LockTable<V>,",
-     "    pub(crate) table: FreeTable<V>,", "STATEMENT-LOCK"),
+     "    pub(crate) table: FreeTable<V>,", f"docs/STATEMENT-LOCK.md {DIFFERS}"),
     ("another definition of the whole promise", "docs/LIBRARY-C.md", "AnswersByNumber view.now",
-     "AnswersByNumber view.old", "LIBRARY-C"),
+     "AnswersByNumber view.old", PROMISE),
     ("another number of the promise's definitions", "docs/LIBRARY-C.md", " definitions of ", "9 definitions of ",
-     "LIBRARY-C"),
-    ("a clause that is gone", VIEWS, f"    ensures silent {{ {OF_SIZES} }}\n", "", "STATEMENT-LIBRARIES"),
+     PROMISE),
+    ("a clause that is gone", VIEWS, f"    ensures silent {{ {OF_SIZES} }}\n", "", LIBRARIES),
     ("two statuses with one number", "crates/yarib_c/src/status.rt", "pub const NOTHING: u32 = 1;",
-     "pub const NOTHING: u32 = 0;", "STATEMENT-LIBRARIES"),
+     "pub const NOTHING: u32 = 0;", LIBRARIES),
+    ("a tie that is gone", "crates/ya_lock/src/rule.rt", "    ghost first = { λ _. Unused };\n", "",
+     "for LockRule: no first"),
+    ("a page's number of lines", "README.md", " lines](docs/STATEMENT-RUN.md)", "9 lines](docs/STATEMENT-RUN.md)",
+     f"README.md {DIFFERS}"),
+    ("a chapter's number of lines", "README.md", "](docs/STATEMENT-LOCK.md#the-running-lock)",
+     "9](docs/STATEMENT-LOCK.md#the-running-lock)", f"README.md {DIFFERS}"),
+    ("a page without a link", "README.md", "](docs/STATEMENT-RUN.md)", "]()", "lines of definitions"),
 )
 # Clauses of the C library that say less, each refused by the page of the libraries: a name, the old and the new text.
 WEAKER = (
@@ -63,73 +73,54 @@ class Pages(TestCase):
         for name in ("README.md", "crates.txt"):
             shutil.copy(TOP / name, self.folder / name)
 
-    def change(self, name, old, new):
-        """Changes a text, and returns what restores the file."""
+    def statement(self, *words):
+        return self.call(self.folder / "dev/statements/statement", *words)
+
+    @contextlib.contextmanager
+    def changed(self, name, old, new):
+        """Changes a text, and restores the file at the end."""
         file = self.folder / name
         text = file.read_text()
         self.assertIn(old, text)
         file.write_text(text.replace(old, new))
-        return lambda: file.write_text(text)
+        yield
+        file.write_text(text)
 
     def assert_refused(self, said):
         """Fails unless the check refuses the copy with a message that ends so."""
-        ended = self.call(self.folder / "dev/statements/statement", "--check")
+        ended = self.statement("--check")
         self.assertEqual((ended.returncode, ended.stderr.rstrip("\n")[-len(said):]), (1, said))
 
     # Catches a check that refuses the pages of this repository, or because of a definition's place.
     def test_pages_as_they_are(self):
         text = (self.folder / LAWS).read_text()
         (self.folder / LAWS).write_text(re.sub(r"\n\n", "\n\n\n", text, count=3))
-        self.assert_ended(self.call(self.folder / "dev/statements/statement", "--check"))
+        self.assert_ended(self.statement("--check"))
 
-    # Catches a law or a tie that no page prints, so that a weaker one passes.
+    # Catches a law or a tie that no page prints, so that a weaker one passes; a page that goes on saying what nothing
+    # ties to the sources; a front page without a page's link, or with another number of lines than a page or a chapter.
     def test_changes(self):
-        for name, file, old, new, page in CHANGES:
-            with self.subTest(name):
-                restore = self.change(file, old, new)
-                self.assert_refused(f"docs/{page}.md is not what dev/statements/statement --write would write")
-                restore()
+        for name, file, old, new, said in CHANGES:
+            with self.subTest(name), self.changed(file, old, new):
+                self.assert_refused(said)
 
     # Catches a page that leaves out a clause of the C library, or a word of it.
     def test_weaker_clauses(self):
         names = re.findall(r'^pub extern "C" fn (\w+)', (TOP / VIEWS).read_text(), re.M)
         functions = [f"yarib_c::views::{name}" for name in names]
-        as_it_is = self.call(self.folder / "dev/statements/statement", *functions).stdout
+        as_it_is = self.statement(*functions).stdout
         for name, old, new in WEAKER:
-            with self.subTest(name):
-                restore = self.change(VIEWS, old, new)
-                ended = self.call(self.folder / "dev/statements/statement", *functions)
+            with self.subTest(name), self.changed(VIEWS, old, new):
+                ended = self.statement(*functions)
                 self.assertEqual((ended.returncode, new in ended.stdout, ended.stdout == as_it_is), (0, True, False))
-                restore()
 
-    # Catches a new law that nobody put on a page.
-    def test_law_on_no_page(self):
-        self.change(WORDS, '  "rt_rib::laws::best_routes",\n', "")
-        self.call(self.folder / "dev/statements/statement", "--write")
-        self.assert_refused("BestRoutesSuffice is on no statement page, and no example tests it")
-
-    # Catches a clause of a call whose definition neither a page nor an example has.
-    def test_definition_on_no_page(self):
-        self.change(WORDS, '  "rt_trie::Trie::retain",\n', "")
-        self.call(self.folder / "dev/statements/statement", "--write")
-        self.assert_refused("with_pair is on no statement page, and no example tests it")
-
-    # Catches a page that goes on saying what nothing ties to the sources any more.
-    def test_tie_that_is_gone(self):
-        self.change("crates/ya_lock/src/rule.rt", "    ghost first = { λ _. Unused };\n", "")
-        self.assert_refused("for LockRule: no first")
-
-    # Catches a front page that says another number of lines than a page or a chapter has, or doesn't name a page.
-    def test_numbers_of_lines(self):
-        for name, link in (("a page's", " lines](docs/STATEMENT-RUN.md)"),
-                           ("a chapter's", "](docs/STATEMENT-LOCK.md#the-running-lock)")):
-            with self.subTest(name):
-                restore = self.change("README.md", link, "9" + link)
-                self.assert_refused("README.md is not what dev/statements/statement --write would write")
-                restore()
-        with self.subTest("no link"):
-            self.change("README.md", "](docs/STATEMENT-RUN.md)", "]()")
-            self.assert_refused("lines of definitions")
+    # Catches a new law that nobody put on a page, or a clause whose definition neither a page nor an example has.
+    def test_what_no_page_has(self):
+        for clause, said in (("rt_rib::laws::best_routes", "BestRoutesSuffice"),
+                             ("rt_trie::Trie::retain", "with_pair")):
+            with self.subTest(said), self.changed(WORDS, f'  "{clause}",\n', ""):
+                self.statement("--write")
+                self.assert_refused(f"{said} is on no statement page, and no example tests it")
 
 
 def all_definitions():
