@@ -151,10 +151,12 @@ class Verdict(GateTest):
     def assert_ended_by(self, number):
         """Ends a run by a signal. Fails unless its verdict says so, and no file of it is left."""
         self.one.put("out/gate.json", "an older one\n")
+        is_waiting = self.one.folder / "notes.waits"
+        is_waiting.unlink(missing_ok=True)
         with subprocess.Popen([self.one.top / "test", "--quick"], cwd=self.one.top, stdout=subprocess.DEVNULL,
                               stderr=subprocess.DEVNULL, start_new_session=True, preexec_fn=heed_signals,
                               env=self.one.environment("tests.test_rows=waits", TZ="Asia/Tokyo")) as running:
-            while not (self.one.folder / "notes.waits").exists() and running.poll() is None:
+            while not is_waiting.exists() and running.poll() is None:
                 time.sleep(0.02)
             self.assertFalse((self.one.top / "out/gate.json").exists())
             now = datetime.datetime.now(datetime.timezone.utc).replace(microsecond=0)
@@ -166,14 +168,10 @@ class Verdict(GateTest):
         self.assertEqual(self.one.left(), [])
 
     # Catches a gate that is ended and leaves an older verdict, or its files.
-    def test_hung_up(self):
-        self.assert_ended_by(signal.SIGHUP)
-
-    def test_interrupted(self):
-        self.assert_ended_by(signal.SIGINT)
-
-    def test_terminated(self):
-        self.assert_ended_by(signal.SIGTERM)
+    def test_ended(self):
+        for number in (signal.SIGHUP, signal.SIGINT, signal.SIGTERM):
+            with self.subTest(number.name):
+                self.assert_ended_by(number)
 
 
 if __name__ == "__main__":

@@ -174,16 +174,13 @@ class Mutants(KeptTest):
         """Fails unless these functions are tried, and the mutants are refused but for the one that means the same."""
         self.assertEqual(self.gate(*words), (1, "2 passed, 1 failed", functions, ["one-wrong", "other-wrong"]))
 
-    def test_again(self):
+    def test_again_and_anew(self):
         self.assert_gate(self.BOTH)
         self.assert_gate(self.KEPT)
         self.assertIn("small: 2 of 3 mutants were refused in earlier runs on this machine",
                       self.run_tool("dev/mutants/mutants", "--gate", "--crate", "small")[0].stdout)
-
-    def test_anew(self):
         self.assert_gate(self.BOTH, "--anew")
         self.assert_gate(self.KEPT)
-        self.assert_gate(self.BOTH, "--anew")
 
     def test_one_by_its_name(self):
         self.assertEqual(self.gate("--anew", "other-wrong"), (0, "1 passed, 0 failed", {"same"}, ["other-wrong"]))
@@ -195,9 +192,10 @@ class Mutants(KeptTest):
 
     def test_files_that_decide(self):
         self.gate()
-        for name, old, new in DECIDING:
-            with self.subTest(f"{name}: {old}"):
-                self.assert_changed(f"top/{name}", old, new, self.BOTH)
+        for names, functions in ((DECIDING, self.BOTH), (WITHOUT_WEIGHT, self.KEPT)):
+            for name, old, new in names:
+                with self.subTest(f"{name}: {old}"):
+                    self.assert_changed(f"top/{name}", old, new, functions)
         self.assert_gate(self.KEPT)
 
     def test_scripts_that_decide(self):
@@ -206,12 +204,6 @@ class Mutants(KeptTest):
             with self.subTest(name):
                 text = (self.top / name).read_text()
                 self.assert_changed(f"top/{name}", text, f"{text}# more\n", self.BOTH)
-
-    def test_files_without_weight(self):
-        self.gate()
-        for name, old, new in WITHOUT_WEIGHT:
-            with self.subTest(f"{name}: {old}"):
-                self.assert_changed(f"top/{name}", old, new, self.KEPT)
 
     def test_files_of_other_names(self):
         self.gate()
@@ -223,13 +215,10 @@ class Mutants(KeptTest):
                 moved.rename(path)
                 self.assert_gate(self.KEPT)
 
-    def test_repository_elsewhere(self):
+    def test_repository_elsewhere_and_another_toolchain(self):
         self.gate()
         self.top = self.top.rename(self.folder / "elsewhere")
         self.assert_gate(self.KEPT)
-
-    def test_toolchain(self):
-        self.gate()
         self.assert_changed("kit/WHAT", "", "another toolchain", self.BOTH)
 
     def test_no_verdict(self):

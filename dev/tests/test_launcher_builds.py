@@ -46,17 +46,14 @@ class Anew(LauncherTest):
                 (self.top / "crates/rt_diff/src/long.rt").write_text("// " + "x" * 300_000 + end + "\n")
                 self.assert_built(above("rt_diff"))
 
-    def test_file_of_another_name(self):
-        source = self.top / "crates/rt_diff/src"
+    def test_name_of_a_file_and_line_of_a_crate(self):
         self.change("crates/rt_diff/src/one.rt")
         self.assert_starts()
-        (source / "one.rt").rename(source / "other.rt")
-        self.assert_built(above("rt_diff"))
-
-    def test_line_of_a_crate(self):
-        lines = (self.top / "crates.txt").read_text()
-        (self.top / "crates.txt").write_text(lines.replace("rt_diff: ", "rt_diff: thiserror "))
-        self.assert_built(above("rt_diff"))
+        for what, command in (("name", "mv crates/rt_diff/src/one.rt crates/rt_diff/src/other.rt"),
+                              ("line", "sed -i 's/^rt_diff: /&thiserror /' crates.txt")):
+            with self.subTest(what):
+                self.assertEqual(self.call("sh", "-c", command, cwd=self.top).returncode, 0)
+                self.assert_built(above("rt_diff"))
 
     def test_newer_file_as_it_was(self):
         (self.top / "crates/rt_cidr/src/lib.rt").touch()
@@ -168,15 +165,14 @@ class Order(LauncherTest):
                 self.assertRegex(ended.stderr, rf"\b{crate}\b")
 
     # Catches builds without mutual exclusion.
-    def test_four_calls_at_once(self):
+    def test_calls_at_once(self):
         calls = ("run", "lookup", "table", "diff")
         with concurrent.futures.ThreadPoolExecutor(len(calls)) as pool:
             ended = list(pool.map(lambda name: self.start(name, "x"), calls))
         self.assertEqual([one[:2] for one in ended],
                          [(0, started([word, "x"], self.top, TUNABLES_OF.get(word, TUNABLES))) for word in calls])
         self.assertEqual(self.noted().count("begin rt_app"), 1)
-
-    def test_two_builds_at_once(self):
+        self.change("crates/rt_trie/src/lib.rt")
         with concurrent.futures.ThreadPoolExecutor(2) as pool:
             builds = list(pool.map(lambda name: self.build(name).returncode, ("rt_app", "rt_app")))
         self.assertEqual((builds, self.noted().count("begin rt_trie")), ([0, 0], 1))
@@ -306,8 +302,6 @@ class BesideTheGate(LauncherTest):
         self.change("crates/rt_app/src/main.rt")
         self.assert_starts()
         self.assertIsNone(self.refused())
-
-    def test_after_a_build_of_the_library(self):
         self.assertEqual(self.start(by=self.top / "bindings/build").returncode, 0)
         self.assertIsNone(self.refused())
 

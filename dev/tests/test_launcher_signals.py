@@ -48,17 +48,10 @@ class Signals(LauncherTest):
 
     # Catches a signal after which a prover goes on, or a temporary file of the build, half a product or a lock remains; a
     # build that has its files elsewhere than in $TMPDIR; and another status of an ended build.
-    def test_terminated(self):
-        self.assert_ended_by(signal.SIGTERM)
-
-    def test_interrupted(self):
-        self.assert_ended_by(signal.SIGINT)
-
-    def test_hung_up(self):
-        self.assert_ended_by(signal.SIGHUP)
-
-    def test_killed(self):
-        self.assert_ended_by(signal.SIGKILL)
+    def test_ended(self):
+        for number in (signal.SIGTERM, signal.SIGINT, signal.SIGHUP, signal.SIGKILL):
+            with self.subTest(number.name):
+                self.assert_ended_by(number)
 
     # Catches a signal in the first second that is reported with a traceback. The build doesn't end by itself: a program that
     # it made, which is Python here, would print a traceback.

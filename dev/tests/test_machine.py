@@ -65,19 +65,14 @@ class Machine(TestCase):
             with self.subTest(name):
                 self.assertEqual(machine.quota(self.root(name, files)), most)
 
-    def test_processors_of_a_group(self):
+    def test_processors(self):
         self.assertEqual(machine.processors(self.root("one", QUOTAS["a part of a processor"][0])), 1)
-
-    def test_processors_without_a_group(self):
         self.assertEqual(machine.processors(self.root("none", {})), len(os.sched_getaffinity(0)))
 
-    def test_provers_that_fit(self):
-        self.assertEqual(machine.provers(self.root("small", FREE["a group with a limit"][0])), 1)
-
-    def test_a_prover_runs_without_free_memory(self):
-        self.assertEqual(machine.provers(self.root("none", FREE["a group that has used all"][0])), 1)
-
-    def test_a_prover_for_each_processor(self):
+    def test_provers(self):
+        for name in ("a group with a limit", "a group that has used all"):
+            with self.subTest(name):
+                self.assertEqual(machine.provers(self.root(name, FREE[name][0])), 1)
         root = self.root("large", {"proc/meminfo": "MemAvailable:   999000000000 kB\n"})
         self.assertEqual(machine.provers(root), machine.processors(root))
 
