@@ -12,7 +12,6 @@ import json
 import pathlib
 import subprocess
 import sys
-import tempfile
 import time
 import traceback
 import unittest
@@ -66,23 +65,29 @@ def written(module):
                   for one in kind.body if isinstance(one, ast.FunctionDef) and one.name.startswith("test"))
 
 
-def names_here():
-    """Returns the names of the tests of each module."""
+def names_in(package):
+    """Returns the names of the tests of each module of a package."""
     found = {}
     for module in modules():
-        try:
-            found[module] = list(methods(module))
-        except Exception:  # its own run reports why
-            found[module] = written(module)
+        if module.rpartition(".")[0] == package:
+            try:
+                found[module] = list(methods(module))
+            except Exception:  # its own run reports why
+                found[module] = written(module)
     return found
 
 
 @functools.cache
 def names():
-    """Returns the names of the tests of each module. Another process loads the modules, since they may change its settings."""
-    with tempfile.NamedTemporaryFile("r") as file:
-        subprocess.run([sys.executable, "-m", "dev.runner", "--names", "--record", file.name], cwd=TOP, check=True)
-        return json.load(file)
+    """Returns the names of the tests of each module. A process for each package loads its modules, since they may change where
+    Python looks for others, and the settings of what they start."""
+    packages = sorted({module.rpartition(".")[0] for module in modules()})
+    started = [subprocess.Popen([sys.executable, "-m", "dev.runner", "--names", package], cwd=TOP, stdout=subprocess.PIPE)
+               for package in packages]
+    found = {}
+    for process in started:
+        found |= json.loads(process.communicate()[0])
+    return found
 
 
 class Recorded(unittest.TestResult):
@@ -173,14 +178,14 @@ def run_module(module, names, file):
 
 def main():
     parser = argparse.ArgumentParser(description=__doc__, formatter_class=argparse.RawDescriptionHelpFormatter)
-    parser.add_argument("module", nargs="?")
+    parser.add_argument("module")
     parser.add_argument("tests", nargs="*", metavar="TEST", help="names of tests; all if none is named")
     parser.add_argument("--record", type=pathlib.Path, default="/dev/stdout", help="the file that gets a line for each test")
-    parser.add_argument("--names", action="store_true", help="writes the names of all tests as JSON instead")
+    parser.add_argument("--names", action="store_true", help="prints the names of all tests of a package as JSON instead")
     args = parser.parse_args()
+    if args.names:
+        return print(json.dumps(names_in(args.module)))
     with open(args.record, "a") as file:
-        if args.names:
-            return file.write(json.dumps(names_here()))
         run_module(args.module, args.tests, file)
 
 

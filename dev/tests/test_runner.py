@@ -202,6 +202,14 @@ class Names(TestCase):
         files = {str(file.relative_to(TOP)) for folder in runner.FOLDERS for file in (TOP / folder).rglob("test_*.py")}
         self.assertEqual({f"{module.replace('.', '/')}.py" for module in runner.modules()}, files)
 
+    def test_names_of_tests_that_a_loop_makes(self):
+        """Whatever modules were loaded before, and have added to sys.path."""
+        for module in ("tests.test_processors", "convert.tests.inside.test_pieces"):
+            with self.subTest(module):
+                alone = self.call(sys.executable, "-c", f"from dev import runner; print(*runner.methods('{module}'))", cwd=TOP)
+                self.assert_ended(alone, stdout=None)
+                self.assertEqual(alone.stdout.split(), runner.names()[module])
+
     def test_no_test_outside_the_folders(self):
         strays = [str(file.relative_to(TOP)) for file in TOP.rglob("test_*.py")
                   if not any(str(file.relative_to(TOP)).startswith(f"{folder}/") for folder in (*runner.FOLDERS, "out"))]
