@@ -354,7 +354,7 @@ def clock(seconds):
 def takes_anew():
     """Returns true if `rt ci` has the option --anew: some toolchains always prove all."""
     said = subprocess.run(["rt", "--help"], stdout=subprocess.PIPE, stderr=subprocess.STDOUT, text=True).stdout
-    return bool(re.search(r"\brt ci .*--anew", said))
+    return bool(re.search(r"\brt ci\b.*--anew", said, re.S))
 
 
 def clean():
