@@ -236,7 +236,7 @@ class Scratch:
                    said_by(["rt", "check", "--jobs", "1", "--allow-holes"], self.folder, seconds))
         refused = self.refused_in(printed, written) if VERDICT.search(printed) else None
         for name in written:
-            self.file(name).unlink()
+            self.file(name).unlink(missing_ok=True)
         return refused
 
     def refused_in(self, printed, written):
@@ -245,7 +245,7 @@ class Scratch:
         refused = collections.defaultdict(set)
         for name, line in ERROR.findall(printed):
             copy, blocks = written[name]
-            before = self.file(name).read_text().split("\n")[: int(line)].count("")
+            before = self.file(name).read_text().split("\n")[: int(line)].count("") if self.file(name).exists() else 0
             refused[copy].add(blocks[before - 1] if 0 < before <= len(blocks) else None)
         return refused
 
