@@ -43,7 +43,7 @@ class Built(TestCase):
         self.addCleanup(build.communicate)
         while build.poll() is None:
             for child in self.call("cat", *pathlib.Path(f"/proc/{build.pid}/task").glob("*/children")).stdout.split():
-                if b"rattle\0build" in pathlib.Path(f"/proc/{child}/cmdline").read_bytes():
+                if "rattle\0build" in self.call("cat", f"/proc/{child}/cmdline").stdout:  # it may have ended
                     return build, int(child)
             time.sleep(0.01)
         self.fail(build.communicate())
