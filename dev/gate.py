@@ -46,7 +46,7 @@ class Gate:
         self.failing, self.records, self.others, self.whole = [], [], set(), []
         self.built, self.not_built, self.proved, self.has_proved = set(), set(), set(), False
         self.at_once = max(1, processors() - 2)
-        self.left, self.running = [], {}
+        self.left, self.running, self.threads, self.is_stopped = [], {}, [], False
         self.changed = threading.Condition()
         self.environment = {name: value for name, value in os.environ.items()
                             if not name.startswith("YARIB_") and name not in ("CFLAGS", "PYTHONPATH", "LANGUAGE")}
@@ -67,11 +67,13 @@ class Gate:
     def start(self, command, output, nice=0, **settings):
         """Starts a command in a process group of its own, with its output in a file of the notes."""
         command = [*(["nice", "-n", str(nice)] if nice else []), *map(str, command)]
-        # The environment is replaced, and never changed, since other threads read it.
-        with open(self.notes / output, "wb") as file:
-            process = subprocess.Popen(command, cwd=TOP, env=self.environment, stdin=subprocess.DEVNULL, stdout=file,
-                                       stderr=subprocess.STDOUT, start_new_session=True, **settings)
         with self.changed:
+            if self.is_stopped:
+                raise Stopped(1)
+            # The environment is replaced, and never changed, since other threads read it.
+            with open(self.notes / output, "wb") as file:
+                process = subprocess.Popen(command, cwd=TOP, env=self.environment, stdin=subprocess.DEVNULL, stdout=file,
+                                           stderr=subprocess.STDOUT, start_new_session=True, **settings)
             self.running[process.pid] = process
         return process
 
@@ -84,11 +86,17 @@ class Gate:
         return process.returncode, used.ru_utime + used.ru_stime
 
     def stop_all(self):
-        for pid in list(self.running):
+        """Ends what runs, and waits until nothing writes to the notes any more."""
+        with self.changed:
+            self.is_stopped, left = True, list(self.running)
+            self.changed.notify_all()
+        for pid in left:
             try:
                 os.killpg(pid, signal.SIGTERM)
             except ProcessLookupError:
                 pass
+        for thread in self.threads:
+            thread.join(10)
 
     # -- tests
 
@@ -135,7 +143,7 @@ class Gate:
     def next_module(self):
         """Returns a module whose needs are met, once there is one, or None if none is left."""
         with self.changed:
-            while any(not runner.about(module)[0] & self.not_built for module in self.left):
+            while not self.is_stopped and any(not runner.about(module)[0] & self.not_built for module in self.left):
                 for module in self.left:
                     if runner.about(module)[0] <= self.built:
                         self.left.remove(module)
@@ -145,18 +153,28 @@ class Gate:
 
     def work(self, number):
         """Runs modules until none is left; some workers begin when the proofs are made."""
-        while not self.has_proved and number >= self.at_once:
+        while not self.has_proved and not self.is_stopped and number >= self.at_once:
             time.sleep(0.5)
-        while module := self.next_module():
-            self.run_module(module, nice=0 if self.has_proved else 5)
+        try:
+            while module := self.next_module():
+                self.run_module(module, nice=0 if self.has_proved else 5)
+        except Stopped:
+            pass
 
     def workers(self, modules):
         """Starts to run modules beside what else runs, the largest first."""
         self.left = sorted(modules, key=lambda module: -(TOP / (module.replace(".", "/") + ".py")).stat().st_size)
-        threads = [threading.Thread(target=self.work, args=[number], daemon=True) for number in range(processors())]
-        for thread in threads:
-            thread.start()
-        return threads
+        for number in range(processors()):
+            self.start_thread(self.work, number)
+
+    def start_thread(self, target, *words):
+        thread = threading.Thread(target=target, args=words, daemon=True)
+        self.threads.append(thread)
+        thread.start()
+
+    def join(self):
+        for thread in self.threads:
+            thread.join()
 
     # -- proofs
 
@@ -202,6 +220,8 @@ class Gate:
         except OSError as error:
             self.count(0, 1, "the library for C", str(error))
             built = False
+        except Stopped:
+            return
         with self.changed:
             (self.built if built else self.not_built).add("library")
             self.changed.notify_all()
@@ -209,7 +229,7 @@ class Gate:
     def library_is_built(self, sources):
         """Returns true once the library for C is built; a failure is counted."""
         with self.changed:
-            while not LIBRARY <= self.proved and not self.has_proved:
+            while not LIBRARY <= self.proved and not self.has_proved and not self.is_stopped:
                 self.changed.wait(1)
         words = [TOP / "dev/build/archive", "yarib_c", "--sources", sources, *(["--anew"] if self.mode == "anew" else [])]
         status, _ = self.end(self.start(words, "changes", 5))
@@ -271,17 +291,15 @@ class Gate:
         modules = [module for module in runner.modules() if module != "dev.tests.test_pages"]
         alone = [module for module in modules if runner.about(module)[2]]
         mutants = self.start([TOP / "dev/mutants/mutants", "--gate", *anew, "--during", self.notes / "said"], "mutants", 10)
-        threads = self.workers(set(modules) - set(alone))
-        library = threading.Thread(target=self.build_library, args=[sources], daemon=True)
-        library.start()
+        self.workers(set(modules) - set(alone))
+        self.start_thread(self.build_library, sources)
         self.prove()
         shutil.copy(CRATES / "rt_app/out/rt_app", self.notes / "rt_app")
         self.environment = self.environment | {"YARIB_PROGRAM": str(self.notes / "rt_app")}
         self.has_proved = True
         self.has("program")
         definitions = self.start([TOP / "dev/mutants/definitions", "--gate", *anew], "definitions", 10)
-        for thread in [library, *threads]:
-            thread.join()
+        self.join()
         for module in self.left:
             self.count(0, 1, module, "it didn't run, since what it needs wasn't built")
         self.count_tried("definitions", definitions)
@@ -301,8 +319,8 @@ class Gate:
         self.has_proved = True
         self.has("program")
         left_out = [module for module in runner.modules() if runner.about(module)[1] or "library" in runner.about(module)[0]]
-        for thread in self.workers(set(runner.modules()) - set(left_out)):
-            thread.join()
+        self.workers(set(runner.modules()) - set(left_out))
+        self.join()
         line = f"test: left out: {', '.join(left_out)}, all proofs and mutants"
         (self.notes / "output.quick").write_text(f"{line}\n")
         self.say(line)
